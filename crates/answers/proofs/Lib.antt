@@ -1,0 +1,2 @@
+-- That answers which tell the same are the same.
+pub mod Injective

@@ -1,0 +1,2 @@
+-- What every answer says in the scope's numbers.
+pub mod Told

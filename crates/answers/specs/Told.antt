@@ -1,0 +1,60 @@
+-- The numbers given back (rules N1 to N12), and what each answer tells: every promise of an entry point speaks through `told`.
+use Prim.Native.Nat.{ℕ}
+use lib.IntN.{ℤ}
+use Rattle.answers.specs.declared.Refusal.{Refusal}
+use Rattle.answers.specs.declared.Refusal.the-variants as because
+use Rattle.answers.specs.declared.Verdict.{Verdict}
+use Rattle.answers.specs.declared.Verdict.the-variants as verdict
+use Rattle.answers.specs.declared.Reading.{Reading}
+use Rattle.answers.specs.declared.Reading.the-variants as reading
+use Rattle.answers.specs.declared.Outcome.{Outcome}
+use Rattle.answers.specs.declared.Outcome.the-variants as outcome
+
+-- what a call says
+pub data Told : Type 0 where
+  -- a number of the table, and its place
+  refused : ℕ → ℕ → Told
+  -- the next piece is due
+  more : Told
+  -- level, columns, posts to a column
+  accepted : ℕ → ℕ → ℕ → Told
+  height : ℤ → Told
+  void : Told
+  done : Told
+
+-- N1 to N12: the number of each refusal, and its place
+abbrev pub numbered : Refusal → Told
+numbered (because.Short length) = refused 1 length
+numbered (because.Field offset) = refused 2 offset
+numbered (because.Cut offset) = refused 3 offset
+numbered (because.Preamble offset) = refused 4 offset
+numbered (because.Checksum offset) = refused 5 offset
+numbered (because.Word offset) = refused 6 offset
+numbered (because.Surplus due) = refused 7 due
+numbered because.OffGrid = refused 8 0
+numbered (because.Item item) = refused 9 item
+numbered (because.GridLength due) = refused 10 due
+numbered (because.Height index) = refused 11 index
+numbered (because.Room due) = refused 12 due
+
+-- the kinds of answers, and the type of each
+pub data Kind : Type 0 where
+  intake : Kind
+  post : Kind
+  act : Kind
+
+abbrev pub Answer : Kind → Type 0
+Answer intake = Verdict
+Answer post = Reading
+Answer act = Outcome
+
+-- what an answer tells
+abbrev pub told : (k : Kind) → Answer k → Told
+told intake verdict.More = more
+told intake (verdict.Accepted level columns posts) = accepted level columns posts
+told intake (verdict.Refused r) = numbered r
+told post (reading.Height z) = height z
+told post reading.Void = void
+told post (reading.Refused r) = numbered r
+told act outcome.Done = done
+told act (outcome.Refused r) = numbered r

@@ -1,0 +1,12 @@
+-- The marked examples hold: one statement over their whole table.
+use mathlib.Core.Path.{_≡_, refl}
+use mathlib.Core.List.{map}
+use Rattle.layout.specs.Levels.{latitudeInterval, postsOf}
+use Rattle.layout.specs.Zones.{nearEdge, factorAmong, factorOf}
+use Rattle.layout.specs.Grid.{longitudeInterval, columnsOf, cellBytes}
+use Rattle.posts.specs.Words.{heightOf, postOf, inRange, wordAllowed}
+use Rattle.demands.specs.Marked.{made, givens, answers}
+
+pub marked : map made givens ≡ answers
+unfolding made nearEdge factorAmong factorOf latitudeInterval postsOf longitudeInterval columnsOf cellBytes heightOf postOf inRange wordAllowed
+marked = refl

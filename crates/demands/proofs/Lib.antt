@@ -1,0 +1,2 @@
+-- The theorems about the library as a whole.
+pub mod Examples

@@ -1,0 +1,2 @@
+-- What is claimed of the library as a whole.
+pub mod Marked

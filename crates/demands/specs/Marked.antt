@@ -1,0 +1,79 @@
+-- The marked examples (rules M1 to M12): what is given, what it is, and what the definitions make of it.
+use Prim.Native.Nat.{ℕ}
+use mathlib.Core.Bool.{true}
+use mathlib.Core.List.{List, [], _∷_, map}
+use lib.IntN.{ℤ, pos, negℤ}
+use Rattle.octets.specs.Choice.{pick}
+use Rattle.layout.specs.Zones.{nearEdge}
+use Rattle.layout.specs.Grid.{longitudeInterval, columnsOf, cellBytes}
+use Rattle.posts.specs.Words.{wordAllowed, postOf}
+use Rattle.posts.specs.declared.Post.{Post}
+use Rattle.posts.specs.declared.Post.the-variants.{Height, Void}
+
+-- a whole-degree latitude, north or south
+abbrev pub north : ℕ → ℤ
+north degrees = pos degrees
+
+abbrev pub south : ℕ → ℤ
+south degrees = negℤ (pos degrees)
+
+-- what an example gives
+pub data Given : Type 0 where
+  -- the longitude interval, the columns, the cell's bytes of a level and an origin latitude
+  interval : ℕ → ℤ → Given
+  columns : ℕ → ℤ → Given
+  bytes : ℕ → ℤ → Given
+  -- a post word, in a cell that may hold voids
+  word : ℕ → Given
+
+-- what it is
+pub data Is : Type 0 where
+  number : ℕ → Is
+  metres : ℤ → Is
+  void : Is
+  refused : Is
+
+abbrev pub postIs : Post → Is
+postIs (Height z) = metres z
+postIs Void = void
+
+-- what the definitions make of what is given
+unfoldable pub made : Given → Is
+made (interval level latitude) = number (longitudeInterval level (nearEdge latitude))
+made (columns level latitude) = number (columnsOf level (nearEdge latitude))
+made (bytes level latitude) = number (cellBytes level (nearEdge latitude))
+made (word w) = pick (wordAllowed true w) (postIs (postOf w)) refused
+
+-- a row of the table
+pub record Example : Type 0 where
+  pub mark : ℕ
+  pub given : Given
+  pub is : Is
+
+abbrev pub m : ℕ → Given → Is → Example
+m mark given is = record { mark = mark; given = given; is = is }
+
+abbrev pub table : List Example
+table =
+    m 1 (interval 1 (north 49)) (number 30)
+    ∷ m 1 (columns 1 (north 49)) (number 1201)
+    ∷ m 2 (interval 1 (north 50)) (number 60)
+    ∷ m 2 (columns 1 (north 50)) (number 601)
+    ∷ m 3 (columns 1 (south 50)) (number 1201)
+    ∷ m 4 (columns 1 (south 51)) (number 601)
+    ∷ m 5 (interval 0 (north 89)) (number 1800)
+    ∷ m 5 (bytes 0 (north 89)) (number 8762)
+    ∷ m 6 (word 0x2328) (metres (pos 9000))
+    ∷ m 6 (word 0x2329) refused
+    ∷ m 7 (word 0xAEE0) (metres (negℤ (pos 12000)))
+    ∷ m 7 (word 0xAEE1) refused
+    ∷ m 8 (word 0x8001) (metres (negℤ (pos 1)))
+    ∷ m 8 (word 0xFFFF) void
+    ∷ []
+
+-- what is given and what it is, row by row
+abbrev pub givens : List Given
+givens = map (λ (e : Example). e .given) table
+
+abbrev pub answers : List Is
+answers = map (λ (e : Example). e .is) table

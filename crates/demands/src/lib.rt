@@ -1,0 +1,1 @@
+// No code: what the library promises as a whole, said over the crates below (see specs/ and proofs/).

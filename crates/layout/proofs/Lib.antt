@@ -1,0 +1,5 @@
+-- The laws of the grid: what the functions' proofs and the callers cite.
+pub mod Edges
+pub mod Factors
+pub mod Ranges
+pub mod Table

@@ -1,0 +1,5 @@
+-- The grid of a cell, derived from its level and latitude zone, and the published table it is held against.
+pub mod Levels
+pub mod Zones
+pub mod Grid
+pub mod Table

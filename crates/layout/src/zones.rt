@@ -1,0 +1,34 @@
+// Latitude zones: the near edge of a cell, and the zone's factor.
+ghost use mathlib.Core.Path.{_≡_};
+ghost use Prim.Native.Nat.{_<_, _≤_};
+ghost use Rattle.layout.specs.Zones.{nearEdge, factorOf};
+
+// Zones I to V: each ends before its bound, and its longitude interval is so many latitude intervals.
+const BOUNDS: [usize; 5] = [50, 70, 75, 80, 90];
+
+const FACTORS: [usize; 5] = [1, 2, 3, 4, 6];
+
+// The whole-degree parallel of a cell nearer the equator, from the latitude of its origin.
+pub fn near_edge(latitude: i64) -> usize
+    ensures { λ r. ⌜ r ≡ nearEdge latitude ⌝ }
+{
+    if latitude < 0 {
+        (-1 - latitude) as usize
+    } else {
+        latitude as usize
+    }
+}
+
+// The factor of the zone that an edge lies in, 0 past the last zone.
+pub fn factor(edge: usize) -> usize
+    ensures { λ r. ⌜ r ≡ factorOf edge ⌝ }
+{
+    let mut i = 0;
+    while i < 5 {
+        if edge < BOUNDS[i] {
+            return FACTORS[i];
+        }
+        i += 1;
+    }
+    0
+}

@@ -1,0 +1,23 @@
+-- Laws of choices: what a test that passed says of its parts, and a proof by cases on a test.
+use Prim.Native.Nat.{ℕ, _≤_, _<_}
+use native.Mathlib.Nat.{lt-of-not-le}
+use native.Mathlib.Decide.{decLe}
+use mathlib.Core.Path.{_≡_, refl, sym, _∙_}
+use mathlib.Core.Bool.{Bool, true, false, false≢true}
+use Rattle.octets.specs.Choice.{both, either}
+
+pub both-true : (a b : Bool) → both a b ≡ true → (a ≡ true) × (b ≡ true)
+both-true true b e = (refl, e)
+both-true false b e = absurd (false≢true e)
+
+-- by cases on a test, with its outcome as an equation
+pub by-test : {C : Type 0} (b : Bool) → (b ≡ true → C) → (b ≡ false → C) → C
+by-test true f g = f refl
+by-test false f g = g refl
+
+pub clash : {C : Type 0} {b : Bool} → b ≡ true → b ≡ false → C
+clash t f = absurd (false≢true (sym f ∙ t))
+
+-- by cases on an order
+pub by-order : {C : Type 0} (a b : ℕ) → (a ≤ b → C) → (b < a → C) → C
+by-order a b f g = elim (decLe a b) [ yes h ↦ f h | no h ↦ g (lt-of-not-le h) ]

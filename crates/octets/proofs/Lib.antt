@@ -1,0 +1,10 @@
+-- Laws of the definitions, proved once for every crate above.
+pub mod ChoiceLaws
+pub mod TestLaws
+pub mod ScanLaws
+pub mod PasteLaws
+pub mod PlaceLaws
+pub mod NumberLaws
+pub mod SumLaws
+pub mod DigitLaws
+pub mod TextLaws

@@ -1,0 +1,43 @@
+-- Laws of numbers in bytes: what stands there is what was put, for any number of bytes.
+use Prim.Native.Nat.{ℕ, _+_, _*_, _^_, _<_, _≤_}
+use native.Mathlib.Nat.{add-zero}
+use native.Mathlib.Omega.{arith}
+use mathlib.Core.Path.{_≡_, refl, sym, ap, _∙_}
+use mathlib.Core.List.{List, [], _∷_, _++_}
+use lib.Dec.{lit<}
+use lib.ListN.{length, getD, take, drop}
+use lib.Seq.{getD-drop}
+use Rattle.octets.specs.Places.{places, value}
+use Rattle.octets.specs.Numbers.{numberAt, bytesOf}
+use Rattle.octets.proofs.PlaceLaws.{value-same, value-below, value-places, places-value, length-places}
+
+pub length-bytes : (n v : ℕ) → length (bytesOf n v) ≡ n
+length-bytes n v = length-places 256 n v
+
+-- a number that fits is read back from its bytes
+pub number-back : (n v : ℕ) → v < 256 ^ n → numberAt (bytesOf n v) 0 n ≡ v
+number-back n v h =
+    value-same 256 (λ (i : ℕ). getD (bytesOf n v) (0 + i) 0) (λ (i : ℕ). getD (bytesOf n v) i 0) n
+    (λ i k. ap (λ (m : ℕ). getD (bytesOf n v) m 0) (omega arith))
+    ∙ value-places 256 n v (lit< tt) h
+
+-- the number that stands in a part, seen from the part
+pub number-part : (s : List ℕ) (at n : ℕ) → numberAt s at n ≡ numberAt (drop at s) 0 n
+number-part s at n =
+    value-same 256 (λ (i : ℕ). getD s (at + i) 0) (λ (i : ℕ). getD (drop at s) (0 + i) 0) n
+    (λ i k. let e : 0 + i ≡ i = omega arith in rw (e, getD-drop at s i 0))
+
+-- the bytes of the number that stands there are the bytes that stand there
+pub bytes-back : (s : List ℕ) (at n : ℕ) → n ≤ length (drop at s) → ((i : ℕ) → getD s i 0 < 256)
+    → bytesOf n (numberAt s at n) ≡ take n (drop at s)
+bytes-back s at n h f =
+    ap (places 256 n) (value-same 256 (λ (i : ℕ). getD s (at + i) 0) (λ (i : ℕ). getD (drop at s) i 0) n (λ i k. sym (getD-drop at s i 0)))
+    ∙ places-value 256 (drop at s) n h (λ i k. rw (getD-drop at s i 0) (f (at + i)))
+
+pub number-below : (s : List ℕ) (at n : ℕ) → ((i : ℕ) → getD s i 0 < 256) → numberAt s at n < 256 ^ n
+number-below s at n f = value-below 256 (λ (i : ℕ). getD s (at + i) 0) n (λ i k. f (at + i))
+
+-- two bytes, as code reads them
+pub number-two : (s : List ℕ) (at : ℕ) → numberAt s at 2 ≡ getD s at 0 * 256 + getD s (at + 1) 0
+unfolding value
+number-two s at = rw (add-zero at) (omega arith)

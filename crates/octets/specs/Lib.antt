@@ -1,0 +1,10 @@
+-- What lent bytes say: the words that every other crate's definitions are made of.
+pub mod Choice
+pub mod Tests
+pub mod Scan
+pub mod Places
+pub mod Numbers
+pub mod Sums
+pub mod Digits
+pub mod Texts
+pub mod Pastes

@@ -1,0 +1,13 @@
+-- Numbers in bytes, high byte first.
+use Prim.Native.Nat.{ℕ, _+_}
+use mathlib.Core.List.{List}
+use lib.ListN.{getD}
+use Rattle.octets.specs.Places.{places, value}
+
+-- the number that stands in n bytes of s at `at`
+abbrev pub numberAt : List ℕ → ℕ → ℕ → ℕ
+numberAt s at n = value 256 (λ (i : ℕ). getD s (at + i) 0) n
+
+-- the n bytes of v
+abbrev pub bytesOf : ℕ → ℕ → List ℕ
+bytesOf n v = places 256 n v

@@ -1,0 +1,7 @@
+// Lent bytes: numbers high byte first, byte sums, decimal digits, fixed texts, and bytes put over bytes.
+pub mod choices;
+pub mod digits;
+pub mod numbers;
+pub mod pastes;
+pub mod sums;
+pub mod texts;

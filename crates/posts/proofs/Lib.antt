@@ -1,0 +1,7 @@
+-- The laws that the proofs cite, and what they give together: words and heights, there and back.
+pub mod Signed
+pub mod PostWords
+pub mod Voids
+pub mod Pairs
+pub mod RoundTrip
+pub mod Readings

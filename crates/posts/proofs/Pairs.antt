@@ -1,0 +1,84 @@
+-- The words that a cell may hold beside the heights that it may be given: to each word its height.
+use Prim.Native.Nat.{ℕ, suc, _+_, _-_, _%_, _<_, _≤_}
+use native.Mathlib.Omega.{arith}
+use native.Mathlib.Nat.{mod-eq-of-lt}
+use native.Mathlib.Decide.{ℕ-discrete, decLt}
+use mathlib.Core.Path.{_≡_, refl, sym, _∙_}
+use mathlib.Core.Bool.{Bool, true, false≢true}
+use lib.IntN.{ℤ, pos, negsuc}
+use borrow.Author.Tests.{leb-true, le-leb}
+use Rattle.posts.specs.Words.{postOf, inRange, wordAllowed}
+use Rattle.posts.specs.Heights.{formOf, heightAllowed, wordOf}
+use Rattle.posts.proofs.PostWords.{up-in-range, down-in-range, up-post, down-post, up-allowed, down-allowed}
+use Rattle.posts.proofs.Voids.{not-void}
+
+-- an allowed word, and its height in the writer's form
+pub data Pair (voids : Bool) : ℕ → ℤ → Type 0 where
+  void : voids ≡ true → Pair voids 0xFFFF (negsuc 32766)
+  up : (n : ℕ) → n ≤ 9000 → Pair voids n (pos n)
+  down : (w n : ℕ) → w ≡ 0x8001 + n → n < 12000 → Pair voids w (negsuc n)
+
+-- in a pair each gives the other
+pub word-of-pair : {voids : Bool} {w : ℕ} {z : ℤ} → Pair voids w z → wordOf z ≡ w
+unfolding wordOf
+word-of-pair (void v) = refl
+word-of-pair (up n h) = mod-eq-of-lt (omega arith)
+word-of-pair (down w n e h) = omega arith
+
+pub form-of-pair : {voids : Bool} {w : ℕ} {z : ℤ} → Pair voids w z → formOf (postOf w) ≡ z
+unfolding postOf
+form-of-pair (void v) = refl
+form-of-pair (up n h) = rw (up-post n (omega arith))
+form-of-pair (down w n e h) =
+    let m : w - 0x8000 ≡ suc n = omega arith in
+    rw (down-post w (omega arith) (λ q. omega arith), m)
+
+-- and both are allowed
+pub word-in-pair : {voids : Bool} {w : ℕ} {z : ℤ} → Pair voids w z → wordAllowed voids w ≡ true
+unfolding wordAllowed
+word-in-pair (void v) = v
+word-in-pair {voids = voids} (up n h) = up-allowed voids n (omega arith) ∙ le-leb n 9000 h
+word-in-pair {voids = voids} (down w n e h) =
+    down-allowed voids w (omega arith) (λ q. omega arith) ∙ le-leb (w - 0x8000) 12000 (omega arith)
+
+pub height-in-pair : {voids : Bool} {w : ℕ} {z : ℤ} → Pair voids w z → heightAllowed voids z ≡ true
+unfolding heightAllowed
+height-in-pair (void v) = v
+height-in-pair (up n h) = up-in-range n ∙ le-leb n 9000 h
+height-in-pair (down w n e h) =
+    rw (not-void (negsuc n) (λ q. let m : n ≡ 32766 = cc in omega arith)) (down-in-range (suc n) ∙ le-leb (suc n) 12000 h)
+
+-- every allowed word has its height
+pub pair-of-word : (voids : Bool) (w : ℕ) → wordAllowed voids w ≡ true → Pair voids w (formOf (postOf w))
+unfolding wordAllowed postOf
+pair-of-word voids w a =
+    elim (ℕ-discrete w 0xFFFF) [
+      | yes e ↦ rw e (void (rw e at a))
+      | no v ↦
+          elim (decLt w 0x8000) [
+            | yes h ↦ rw (up-post w h) (up w (leb-true w 9000 (sym (up-allowed voids w h) ∙ a)))
+            | no h ↦
+                elim (ℕ-discrete w 0x8000) [
+                  | yes e ↦ absurd (false≢true (rw e at a))
+                  | no o ↦
+                      let m : w - 0x8000 ≡ suc (w - 0x8001) = omega arith in
+                      let k : w - 0x8000 ≤ 12000 = leb-true (w - 0x8000) 12000 (sym (down-allowed voids w (omega arith) v) ∙ a) in
+                      rw (down-post w (omega arith) v, m) (down w (w - 0x8001) (omega arith) (omega arith))
+                ]
+          ]
+    ]
+
+-- every allowed height has its word
+pub pair-of-height : (voids : Bool) (z : ℤ) → heightAllowed voids z ≡ true → Pair voids (wordOf z) z
+unfolding heightAllowed wordOf
+pair-of-height voids (pos n) a =
+    let h : n ≤ 9000 = leb-true n 9000 (sym (up-in-range n) ∙ a) in
+    rw (mod-eq-of-lt {n = n} {m = 0x8000} (omega arith)) (up n h)
+pair-of-height voids (negsuc n) a =
+    elim (ℕ-discrete n 32766) [
+      | yes e ↦ rw e (void (rw e at a))
+      | no v ↦
+          let r : inRange (negsuc n) ≡ true = rw (not-void (negsuc n) (λ q. let m : n ≡ 32766 = cc in v m)) at a in
+          let h : suc n ≤ 12000 = leb-true (suc n) 12000 (sym (down-in-range (suc n)) ∙ r) in
+          down (0x8000 + (n + 1) % 0x8000) n (omega arith) h
+    ]

@@ -1,0 +1,27 @@
+-- Heights in the writer's form: metres, and -32767 for void (rules P5 and P6).
+use Prim.Native.Nat.{ℕ, _+_, _%_}
+use mathlib.Core.Bool.{Bool, false}
+use lib.IntN.{ℤ, pos, negsuc, negℤ}
+use lib.Signed.{leZ}
+use Rattle.octets.specs.Choice.{pick, both}
+use Rattle.posts.specs.Words.{inRange}
+use Rattle.posts.specs.declared.Post.{Post}
+use Rattle.posts.specs.declared.Post.the-variants.{Height, Void}
+
+-- P5: a post in the writer's form
+abbrev pub formOf : Post → ℤ
+formOf (Height z) = z
+formOf Void = negℤ (pos 32767)
+
+-- the writer's form of void, and no other
+abbrev pub isVoid : ℤ → Bool
+isVoid z = both (leZ (negℤ (pos 32767)) z) (leZ z (negℤ (pos 32767)))
+
+-- P5: what a cell may be given, where voids are allowed or not
+unfoldable pub heightAllowed : Bool → ℤ → Bool
+heightAllowed voids z = pick (isVoid z) voids (inRange z)
+
+-- P6: the word of a height, sign and magnitude in fifteen bits; -32767 gives FFFF hex. `negsuc n` is -(n + 1)
+unfoldable pub wordOf : ℤ → ℕ
+wordOf (pos n) = n % 0x8000
+wordOf (negsuc n) = 0x8000 + (n + 1) % 0x8000

@@ -1,0 +1,25 @@
+-- Post words: sign and magnitude, not complemented (rules P1 to P4).
+use Prim.Native.Nat.{ℕ, _-_}
+use mathlib.Core.Bool.{Bool, false}
+use lib.IntN.{ℤ, pos, negℤ}
+use lib.Signed.{leZ}
+use lib.Dec.{ltb, eqb}
+use Rattle.octets.specs.Choice.{pick, both}
+use Rattle.posts.specs.declared.Post.{Post}
+use Rattle.posts.specs.declared.Post.the-variants.{Height, Void}
+
+-- P1: the high bit is the sign, the other fifteen the magnitude
+unfoldable pub heightOf : ℕ → ℤ
+heightOf w = pick (ltb w 0x8000) (pos w) (negℤ (pos (w - 0x8000)))
+
+-- P2: FFFF hex is void, every other word a height
+unfoldable pub postOf : ℕ → Post
+postOf w = pick (eqb w 0xFFFF) Void (Height (heightOf w))
+
+-- P3: heights run from -12,000 to 9,000
+unfoldable pub inRange : ℤ → Bool
+inRange z = both (leZ (negℤ (pos 12000)) z) (leZ z (pos 9000))
+
+-- P4: void is allowed where voids are, 8000 hex nowhere, any other word where its height is in range
+unfoldable pub wordAllowed : Bool → ℕ → Bool
+wordAllowed voids w = pick (eqb w 0xFFFF) voids (pick (eqb w 0x8000) false (inRange (heightOf w)))

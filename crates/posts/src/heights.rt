@@ -1,0 +1,28 @@
+// Heights as a caller gives them: metres, and -32767 for void.
+ghost use mathlib.Core.Path.{_≡_};
+ghost use Rattle.posts.specs.Heights.{heightAllowed, wordOf};
+
+// Whether a cell may hold this height: `voids` says whether it may hold voids.
+pub fn is_allowed(height: i64, voids: bool) -> bool
+    ensures { λ r. ⌜ r ≡ heightAllowed voids height ⌝ }
+{
+    if height == -32767 {
+        return voids;
+    }
+    if height < -12000 {
+        return false;
+    }
+    height <= 9000
+}
+
+// The word of a height: its sign, and the low fifteen bits of its magnitude.
+pub fn word_of(height: i64) -> u16
+    ensures { λ r. ⌜ r ≡ wordOf height ⌝ }
+{
+    if height < 0 {
+        let below = (-1 - height) as u64;
+        return 0x8000 + ((below % 0x8000 + 1) % 0x8000) as u16;
+    }
+    let metres = height as u64;
+    (metres % 0x8000) as u16
+}
