@@ -1,10 +1,10 @@
 -- Laws of pastes: lengths, one paste after another, single stores, and parts that were lent and came back.
-use Prim.Native.Nat.{ℕ, suc, _+_, _-_, _<_, _≤_}
+use Prim.Native.Nat.{ℕ, zero, suc, _+_, _-_, _<_, _≤_}
 use native.Mathlib.Numerals.{add-one}
 use native.Mathlib.Omega.{arith}
 use mathlib.Core.Path.{_≡_, refl, sym, ap, _∙_}
 use mathlib.Core.List.{List, [], _∷_, _++_, append-nil, append-assoc}
-use lib.ListN.{length, take, drop, getD, set, length-append, length-drop, take-append-drop, drop-of-length-le}
+use lib.ListN.{length, take, drop, getD, set, length-append, length-drop, replicate, length-replicate, take-append-drop, drop-of-length-le}
 use lib.Seq.{sets, sets-eq, take-at, drop-at, set-split, take-set-le, take-suc, drop-append-add, drop-drop, length-take-le}
 use borrow.Rule.Slice.PartMut.{putMid}
 use Rattle.octets.specs.Pastes.{pasted}
@@ -89,3 +89,18 @@ pub paste-more : {A : Type 0} (l : List A) (at : ℕ) (xs : List A) (i : ℕ) (d
 paste-more l at xs i d h k =
     paste-snoc l at i (take i xs) (getD xs i d) (length-take-le i xs (omega arith)) k
     ∙ ap (pasted l at) (rw add-one (sym (take-suc xs i d h)))
+
+replicate-snoc : {A : Type 0} (n : ℕ) (v : A) → replicate n v ++ (v ∷ []) ≡ replicate (suc n) v
+replicate-snoc zero v = refl
+replicate-snoc (suc n) v = ap (λ (l : List _). v ∷ l) (replicate-snoc n v)
+
+-- a turn of a loop that fills with one value
+pub fill-more : {A : Type 0} (l : List A) (at i : ℕ) (v : A) → at + i < length l
+    → set (pasted l at (replicate i v)) (at + i) v ≡ pasted l at (replicate (i + 1) v)
+fill-more l at i v k =
+    paste-snoc l at i (replicate i v) v (length-replicate i v) k
+    ∙ ap (pasted l at) (rw add-one (replicate-snoc i v))
+
+-- a paste over the whole
+pub paste-all : {A : Type 0} (l vs : List A) → length vs ≡ length l → pasted l 0 vs ≡ vs
+paste-all l vs h = paste-front l vs ∙ rw (drop-of-length-le l {i = length vs} (omega arith), append-nil)
