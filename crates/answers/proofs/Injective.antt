@@ -4,7 +4,7 @@ use mathlib.Core.Path.{_≡_, refl, sym, ap, _∙_}
 use lib.IntN.{ℤ}
 use mathlib.Core.List.{List, [], _∷_}
 use lib.ListN.{getD}
-use Rattle.answers.specs.Told.{Told, refused, more, accepted, height, void, done, numbered, Kind, intake, post, act, Answer, told}
+use Rattle.answers.specs.Told.{Told, refused, more, accepted, height, void, done, numbered, numberTold, placeTold, Kind, intake, post, act, Answer, told}
 use Rattle.answers.specs.declared.Refusal.{Refusal}
 use Rattle.answers.specs.declared.Refusal.the-variants as because
 use Rattle.answers.specs.declared.Verdict.the-variants as verdict
@@ -87,3 +87,18 @@ pub numbered-injective : (r s : Refusal) → numbered r ≡ numbered s → r ≡
 numbered-injective r s e =
     let same : outcome.Refused r ≡ outcome.Refused s = told-injective act (outcome.Refused r) (outcome.Refused s) e in
     cc
+
+-- a refusal tells a number and a place, and nothing else
+pub refusal-told : (r : Refusal) → numbered r ≡ refused (numberTold (numbered r)) (placeTold (numbered r))
+refusal-told (because.Short n) = refl
+refusal-told (because.Field n) = refl
+refusal-told (because.Cut n) = refl
+refusal-told (because.Preamble n) = refl
+refusal-told (because.Checksum n) = refl
+refusal-told (because.Word n) = refl
+refusal-told (because.Surplus n) = refl
+refusal-told because.OffGrid = refl
+refusal-told (because.Item n) = refl
+refusal-told (because.GridLength n) = refl
+refusal-told (because.Height n) = refl
+refusal-told (because.Room n) = refl

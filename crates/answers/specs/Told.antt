@@ -37,6 +37,23 @@ numbered (because.GridLength due) = refused 10 due
 numbered (because.Height index) = refused 11 index
 numbered (because.Room due) = refused 12 due
 
+-- the number and the place that were told, 0 where nothing was refused
+abbrev pub numberTold : Told → ℕ
+numberTold (refused number place) = number
+numberTold more = 0
+numberTold (accepted level columns posts) = 0
+numberTold (height z) = 0
+numberTold void = 0
+numberTold done = 0
+
+abbrev pub placeTold : Told → ℕ
+placeTold (refused number place) = place
+placeTold more = 0
+placeTold (accepted level columns posts) = 0
+placeTold (height z) = 0
+placeTold void = 0
+placeTold done = 0
+
 -- the kinds of answers, and the type of each
 pub data Kind : Type 0 where
   intake : Kind

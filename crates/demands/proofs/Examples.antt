@@ -4,9 +4,13 @@ use mathlib.Core.List.{map}
 use Rattle.layout.specs.Levels.{latitudeInterval, postsOf}
 use Rattle.layout.specs.Zones.{nearEdge, factorAmong, factorOf}
 use Rattle.layout.specs.Grid.{longitudeInterval, columnsOf, cellBytes}
+use Rattle.octets.specs.Places.{places}
+use Rattle.octets.specs.Sums.{sumOf}
+use Rattle.columns.specs.Column.{preamble, wordsOf, sealed, columnOf}
+use Rattle.posts.specs.Heights.{wordOf}
 use Rattle.posts.specs.Words.{heightOf, postOf, inRange, wordAllowed}
 use Rattle.demands.specs.Marked.{made, givens, answers}
 
 pub marked : map made givens ≡ answers
-unfolding made nearEdge factorAmong factorOf latitudeInterval postsOf longitudeInterval columnsOf cellBytes heightOf postOf inRange wordAllowed
+unfolding made nearEdge factorAmong factorOf latitudeInterval postsOf longitudeInterval columnsOf cellBytes heightOf postOf inRange wordAllowed wordOf places sumOf preamble wordsOf sealed columnOf
 marked = refl

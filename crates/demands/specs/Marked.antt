@@ -3,9 +3,11 @@ use Prim.Native.Nat.{ℕ}
 use mathlib.Core.Bool.{true}
 use mathlib.Core.List.{List, [], _∷_, map}
 use lib.IntN.{ℤ, pos, negℤ}
+use lib.ListN.{length, drop, replicate}
 use Rattle.octets.specs.Choice.{pick}
 use Rattle.layout.specs.Zones.{nearEdge}
 use Rattle.layout.specs.Grid.{longitudeInterval, columnsOf, cellBytes}
+use Rattle.columns.specs.Column.{sealed, columnOf, sumAt}
 use Rattle.posts.specs.Words.{wordAllowed, postOf}
 use Rattle.posts.specs.declared.Post.{Post}
 use Rattle.posts.specs.declared.Post.the-variants.{Height, Void}
@@ -25,6 +27,9 @@ pub data Given : Type 0 where
   bytes : ℕ → ℤ → Given
   -- a post word, in a cell that may hold voids
   word : ℕ → Given
+  -- the checksum after these bytes, and of the column with this number and these heights
+  checksum : List ℕ → Given
+  column : ℕ → List ℤ → Given
 
 -- what it is
 pub data Is : Type 0 where
@@ -32,6 +37,7 @@ pub data Is : Type 0 where
   metres : ℤ → Is
   void : Is
   refused : Is
+  octets : List ℕ → Is
 
 abbrev pub postIs : Post → Is
 postIs (Height z) = metres z
@@ -42,6 +48,8 @@ unfoldable pub made : Given → Is
 made (interval level latitude) = number (longitudeInterval level (nearEdge latitude))
 made (columns level latitude) = number (columnsOf level (nearEdge latitude))
 made (bytes level latitude) = number (cellBytes level (nearEdge latitude))
+made (checksum body) = octets (drop (length body) (sealed body))
+made (column k zs) = octets (drop (sumAt (length zs)) (columnOf k zs))
 made (word w) = pick (wordAllowed true w) (postIs (postOf w)) refused
 
 -- a row of the table
@@ -69,6 +77,9 @@ table =
     ∷ m 7 (word 0xAEE1) refused
     ∷ m 8 (word 0x8001) (metres (negℤ (pos 1)))
     ∷ m 8 (word 0xFFFF) void
+    ∷ m 9 (checksum (0xAA ∷ 0 ∷ 0 ∷ 0 ∷ 0 ∷ 0 ∷ 0 ∷ 0 ∷ 0x23 ∷ 0x28 ∷ [])) (octets (0 ∷ 0 ∷ 0 ∷ 0xF5 ∷ []))
+    ∷ m 10 (checksum (0xAA ∷ 0 ∷ 0 ∷ 0 ∷ 0 ∷ 0 ∷ 0 ∷ 0 ∷ 0x80 ∷ 0x01 ∷ [])) (octets (0 ∷ 0 ∷ 1 ∷ 0x2B ∷ []))
+    ∷ m 11 (column 300 (replicate 1201 (pos 0))) (octets (0 ∷ 0 ∷ 1 ∷ 4 ∷ []))
     ∷ []
 
 -- what is given and what it is, row by row

@@ -9,7 +9,7 @@ use lib.ListN.{length, getD, take, drop}
 use lib.Seq.{getD-drop}
 use Rattle.octets.specs.Places.{places, value}
 use Rattle.octets.specs.Numbers.{numberAt, bytesOf}
-use Rattle.octets.proofs.PlaceLaws.{value-same, value-below, value-places, places-value, length-places}
+use Rattle.octets.proofs.PlaceLaws.{value-same, value-one, value-below, value-places, places-value, length-places}
 
 pub length-bytes : (n v : ℕ) → length (bytesOf n v) ≡ n
 length-bytes n v = length-places 256 n v
@@ -33,6 +33,14 @@ pub bytes-back : (s : List ℕ) (at n : ℕ) → n ≤ length (drop at s) → ((
 bytes-back s at n h f =
     ap (places 256 n) (value-same 256 (λ (i : ℕ). getD s (at + i) 0) (λ (i : ℕ). getD (drop at s) i 0) n (λ i k. sym (getD-drop at s i 0)))
     ∙ places-value 256 (drop at s) n h (λ i k. rw (getD-drop at s i 0) (f (at + i)))
+
+-- numbers that agree in every byte are equal; equal ones that agree in all bytes but one agree in that one too
+pub number-same : (s t : List ℕ) (at n : ℕ) → ((i : ℕ) → i < n → getD s (at + i) 0 ≡ getD t (at + i) 0) → numberAt s at n ≡ numberAt t at n
+number-same s t at n f = value-same 256 (λ (i : ℕ). getD s (at + i) 0) (λ (i : ℕ). getD t (at + i) 0) n f
+
+pub number-one : (s t : List ℕ) (at n i : ℕ) → i < n → ((j : ℕ) → j < n → (j ≡ i → ⊥) → getD s (at + j) 0 ≡ getD t (at + j) 0)
+    → numberAt s at n ≡ numberAt t at n → getD s (at + i) 0 ≡ getD t (at + i) 0
+number-one s t at n i h f e = value-one 256 (λ (j : ℕ). getD s (at + j) 0) (λ (j : ℕ). getD t (at + j) 0) n i (lit< tt) h f e
 
 pub number-below : (s : List ℕ) (at n : ℕ) → ((i : ℕ) → getD s i 0 < 256) → numberAt s at n < 256 ^ n
 number-below s at n f = value-below 256 (λ (i : ℕ). getD s (at + i) 0) n (λ i k. f (at + i))

@@ -1,6 +1,6 @@
 -- Laws of places, over the base and the number of places: a number and its places restore each other.
 use Prim.Native.Nat.{ℕ, zero, suc, _+_, _*_, _/_, _%_, _^_, _<_, _≤_}
-use native.Mathlib.Nat.{div-add-mod', div-lt-iff-lt-mul, mul-add-div-right, mul-add-mod-self-right, mod-eq-of-lt, div-eq-of-lt, mod-lt, pow-zero, pow-suc, mul-le-mul-right, add-zero}
+use native.Mathlib.Nat.{div-add-mod', div-lt-iff-lt-mul, mul-add-div-right, mul-add-mod-self-right, mod-eq-of-lt, div-eq-of-lt, mod-lt, pow-zero, pow-suc, mul-le-mul-right, mul-div-cancel, add-zero}
 use native.Mathlib.Omega.{arith}
 use mathlib.Core.Path.{_≡_, refl, sym, ap, _∙_}
 use mathlib.Core.List.{List, [], _∷_, _++_}
@@ -74,3 +74,20 @@ module _ (base : ℕ) where
       mul-add-mod-self-right (value base (λ (i : ℕ). getD l i 0) n) base (getD l n 0) ∙ mod-eq-of-lt d
       in
       rw (q, r, places-value l n (omega arith) (λ i k. f i (omega arith))) (sym (take-suc l n 0 (omega arith)))
+
+  -- values that agree in all places but one agree in that one too
+  pub value-one : (p q : ℕ → ℕ) (n i : ℕ) → 0 < base → i < n → ((j : ℕ) → j < n → (j ≡ i → ⊥) → p j ≡ q j)
+      → value base p n ≡ value base q n → p i ≡ q i
+  unfolding value
+  value-one p q zero i b h f e = absurd (omega arith)
+  value-one p q (suc n) i b h f e =
+      by-order (suc i) n
+      (λ k.
+      let last : p n ≡ q n = f n (omega arith) (λ m. omega arith) in
+      let front : value base p n * base ≡ value base q n * base = omega arith in
+      value-one p q n i b k (λ j m. f j (omega arith)) (sym (mul-div-cancel (value base p n) b) ∙ ap (λ (x : ℕ). x / base) front ∙ mul-div-cancel (value base q n) b))
+      (λ k.
+      let i-last : i ≡ n = omega arith in
+      let same = value-same p q n (λ j m. f j (omega arith) (λ m2. omega arith)) in
+      let front : value base p n * base ≡ value base q n * base = ap (λ (x : ℕ). x * base) same in
+      rw i-last (omega arith))

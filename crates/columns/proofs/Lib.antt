@@ -1,0 +1,4 @@
+-- The laws of columns.
+pub mod WordSearch
+pub mod Exactly
+pub mod Damage

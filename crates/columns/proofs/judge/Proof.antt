@@ -1,0 +1,95 @@
+-- `judge`: what is left of the words answers as the whole column.
+use Prim.Native.Nat.{_+_, _-_, _*_, _≤_}
+use Rattle.columns.proofs.WordSearch.{word-on, word-stop}
+use Rattle.columns.proofs.judge.Statement.{statement}
+use Rattle.columns.proofs.judge.Tie as tie
+use Rattle.posts.specs.Words.{wordAllowed}
+use Rattle.columns.specs.Column.{wordIn}
+use Rattle.columns.specs.Judged.{andThen, wordsFrom, judgedColumn}
+use Rattle.octets.proofs.ScanLaws.{scan-done}
+use borrow.Author.Needs.{needs}
+use borrow.Author.Tests.{not-true, not-false}
+use mathlib.Core.Path.{_≡_, sym, ap, _∙_}
+use native.Mathlib.Nat.{sub-zero}
+use native.Mathlib.Omega.{arith}
+
+abbrev Inv-loop : tie.InvT-loop
+Inv-loop column number posts voids base i₀ i = (i ≤ posts) × (wordsFrom column voids base i (posts - i) ≡ judgedColumn column number posts voids base)
+
+abbrev μ-loop : tie.MeasureT-loop
+μ-loop column number posts voids base i₀ i = posts - i
+
+judge-head-requires : tie.Need-judge-head-requires Inv-loop μ-loop
+judge-head-requires c κs = search needs
+
+enum-known-head : tie.Need-enum-known-head Inv-loop μ-loop
+enum-known-head c = search needs
+
+returns : tie.Need-returns Inv-loop μ-loop
+unfolding judgedColumn
+returns c = rw (← c .before .before .before .judge-head .ensures, c .before .head .given .1)
+
+enum-told : tie.Need-enum-told Inv-loop μ-loop
+enum-told c = search needs
+
+loop-holds : tie.Need-loop-holds Inv-loop μ-loop
+unfolding judgedColumn
+loop-holds c = (omega arith, rw (sub-zero, ← c .before .before .judge-head .ensures, c .enum-told .given .1))
+
+mul-at : tie.Need-mul-at Inv-loop μ-loop
+mul-at c = search needs
+
+add-at : tie.Need-add-at Inv-loop μ-loop
+add-at c = search needs
+
+-- whether the word is allowed is what was found
+found : (c : tie.After-is-allowed Inv-loop μ-loop) →
+    let a = c .before .before .before .before .before .before .before .before .args in
+    wordAllowed (a .voids) (wordIn (a .column .now) (c .before .before .before .loop .i)) ≡ c .is-allowed .result
+found c = sym (rw (c .before .be16 .ensures) at (c .is-allowed .ensures))
+
+be16-requires : tie.Need-be16-requires Inv-loop μ-loop
+be16-requires c κs = search needs
+
+is-allowed-requires : tie.Need-is-allowed-requires Inv-loop μ-loop
+is-allowed-requires c κs = search needs
+
+add-t14 : tie.Need-add-t14 Inv-loop μ-loop
+add-t14 c = search needs
+
+returns-2 : tie.Need-returns-2 Inv-loop μ-loop
+returns-2 c = sym (word-stop _ _ _ _ _ (c .before .before .before .loop-test .taken) (found (c .before) ∙ not-true _ (c .if1 .taken))) ∙ c .before .before .before .before .loop .inv .1
+
+add-i : tie.Need-add-i Inv-loop μ-loop
+add-i c = search needs
+
+loop-less : tie.Need-loop-less Inv-loop μ-loop
+loop-less c = search needs
+
+loop-again : tie.Need-loop-again Inv-loop μ-loop
+loop-again c = (omega arith, sym (word-on _ _ _ _ _ (c .before .before .before .loop-test .taken) (found (c .before) ∙ not-false _ (c .if1 .left))) ∙ c .before .before .before .before .loop .inv .1)
+
+returns-3 : tie.Need-returns-3 Inv-loop μ-loop
+returns-3 c = sym (scan-done _ _ _ _ (c .loop-test .left)) ∙ c .before .loop .inv .1
+
+pub judge-spec : {M : Type 1} → statement M
+judge-spec =
+    tie.close
+    (tie.spec
+    Inv-loop
+    μ-loop
+    judge-head-requires
+    enum-known-head
+    returns
+    enum-told
+    loop-holds
+    mul-at
+    add-at
+    be16-requires
+    is-allowed-requires
+    add-t14
+    returns-2
+    add-i
+    loop-less
+    loop-again
+    returns-3)

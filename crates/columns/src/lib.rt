@@ -1,0 +1,60 @@
+// One data column: its preamble, its checksum and its post words, judged over any number of posts.
+ghost use mathlib.Core.Path.{_≡_};
+ghost use Prim.Native.Nat.{_+_, _*_, _^_, _<_, _≤_};
+ghost use lib.ListN.{length};
+ghost use Rattle.columns.specs.Judged.{headOf, judgedColumn};
+use answers::Refusal;
+use octets::numbers::be16;
+use octets::numbers::be24;
+use octets::numbers::be32;
+use octets::sums::sum;
+use posts::words::is_allowed;
+
+pub enum Judged {
+    Good,
+    Refused(Refusal),
+}
+
+// The preamble fields in their order, then the checksum. Places count from `base`, the column's offset in the file.
+pub fn judge_head(column: &[u8], number: usize, posts: usize, base: usize) -> Judged
+    requires { ⌜ (length (now column) ≡ 12 + 2 * posts) × ((posts ≤ 3601) × (base + (12 + 2 * posts) < 2 ^ 64)) ⌝ }
+    ensures { λ r. ⌜ r ≡ headOf (now (column .entry)) number posts base ⌝ }
+{
+    if column[0] != 170 {
+        return Judged::Refused(Refusal::Preamble(base));
+    }
+    if be24(column, 1) as usize != number {
+        return Judged::Refused(Refusal::Preamble(base + 1));
+    }
+    if be16(column, 4) as usize != number {
+        return Judged::Refused(Refusal::Preamble(base + 4));
+    }
+    if be16(column, 6) != 0 {
+        return Judged::Refused(Refusal::Preamble(base + 6));
+    }
+    let end = 8 + 2 * posts;
+    if be32(column, end) != sum(&column[..end]) {
+        return Judged::Refused(Refusal::Checksum(base + end));
+    }
+    Judged::Good
+}
+
+// The preamble, the checksum, then the first word that is not allowed.
+pub fn judge(column: &[u8], number: usize, posts: usize, voids: bool, base: usize) -> Judged
+    requires { ⌜ (length (now column) ≡ 12 + 2 * posts) × ((posts ≤ 3601) × (base + (12 + 2 * posts) < 2 ^ 64)) ⌝ }
+    ensures { λ r. ⌜ r ≡ judgedColumn (now (column .entry)) number posts voids base ⌝ }
+{
+    let head = judge_head(column, number, posts, base);
+    if let Judged::Refused(refusal) = head {
+        return Judged::Refused(refusal);
+    }
+    let mut i = 0;
+    while i < posts {
+        let at = 8 + 2 * i;
+        if !is_allowed(be16(column, at), voids) {
+            return Judged::Refused(Refusal::Word(base + at));
+        }
+        i += 1;
+    }
+    Judged::Good
+}
