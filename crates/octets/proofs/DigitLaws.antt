@@ -15,8 +15,9 @@ use Rattle.octets.specs.Places.{places, value}
 use Rattle.octets.specs.Digits.{isDigit, digitsAt, digitOf, decimalAt, digitsOf}
 use Rattle.octets.specs.Pastes.{pasted}
 use Rattle.octets.proofs.ChoiceLaws.{both-true, by-test}
+use Rattle.octets.proofs.ListLaws.{getD-other}
 use Rattle.octets.proofs.PasteLaws.{paste-none, paste-last}
-use Rattle.octets.proofs.PlaceLaws.{length-places, place-below, value-same, value-below, value-places, places-value, getD-other}
+use Rattle.octets.proofs.PlaceLaws.{length-places, place-below, value-same, value-below, value-places, places-value}
 
 pub is-digit : (b : ℕ) → isDigit b ≡ true → (48 ≤ b) × (b ≤ 57)
 is-digit b e = let p = both-true (leb 48 b) (leb b 57) e in (leb-true 48 b (p .0), leb-true b 57 (p .1))

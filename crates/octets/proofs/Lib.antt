@@ -1,6 +1,7 @@
 -- Laws of the definitions, proved once for every crate above.
 pub mod ChoiceLaws
 pub mod TestLaws
+pub mod ListLaws
 pub mod ScanLaws
 pub mod PasteLaws
 pub mod PlaceLaws

@@ -9,12 +9,6 @@ use lib.Seq.{getD-at, take-suc}
 use Rattle.octets.specs.Places.{places, value}
 use Rattle.octets.proofs.ChoiceLaws.{by-order}
 
--- inside a list no default is read
-pub getD-other : (l : List ℕ) (i d e : ℕ) → i < length l → getD l i d ≡ getD l i e
-getD-other [] i d e h = absurd (omega arith)
-getD-other (x ∷ l) zero d e h = refl
-getD-other (x ∷ l) (suc i) d e h = getD-other l i d e (omega arith)
-
 module _ (base : ℕ) where
   pub length-places : (n v : ℕ) → length (places base n v) ≡ n
   unfolding places

@@ -1,5 +1,5 @@
 -- Laws of computed tests: what they give at every number below n, and at every place of a list of tests.
-use mathlib.Core.Path.{sym, subst}
+use mathlib.Core.Path.{_≡_, refl, sym, subst}
 use mathlib.Core.Logic.{⊎-elim}
 use mathlib.Core.Bool.{Bool, true, false}
 use mathlib.Core.List.{List, [], _∷_}
@@ -29,3 +29,11 @@ pub each : (ts : List Bool) → T (every ts) → (k : ℕ) → T (getD ts k true
 each [] h k = tt
 each (t ∷ ts) h zero = both-left t (every ts) h
 each (t ∷ ts) h (suc k) = each ts (both-right t (every ts) h) k
+
+-- the same, as equations
+pub passes : (b : Bool) → T b → b ≡ true
+passes true t = refl
+passes false t = absurd t
+
+pub each-true : (ts : List Bool) → every ts ≡ true → (k : ℕ) → getD ts k true ≡ true
+each-true ts e k = passes (getD ts k true) (each ts (subst T (sym e) tt) k)

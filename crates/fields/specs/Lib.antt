@@ -1,0 +1,2 @@
+-- The fields of the headers.
+pub mod Table

@@ -1,0 +1,128 @@
+-- The first four rules need nothing due, and fix a level, an origin and a grid within their ranges.
+use Prim.Native.Nat.{ℕ, zero, suc, _+_, _-_, _<_}
+use native.Mathlib.Omega.{arith}
+use mathlib.Core.Path.{_≡_, refl, sym, _∙_}
+use mathlib.Core.Bool.{Bool, true, false}
+use mathlib.Core.List.{List}
+use lib.Dec.{eqb, leb, ltb, lit<}
+use lib.ListN.{take, drop}
+use borrow.Author.Tests.{leb-true, ltb-true, le-leb, lt-leb, eqb-true, eqb-false, ne-eqb}
+use Rattle.octets.specs.Choice.{pick, both, either}
+use Rattle.octets.specs.Texts.{ascii, has}
+use Rattle.octets.proofs.DigitLaws.{decimal-below}
+use Rattle.octets.proofs.ChoiceLaws.{both-true, by-test, by-order, clash}
+use Rattle.layout.specs.Grid.{gridOf, laid}
+use Rattle.layout.specs.declared.Laid.the-variants.{Out}
+use Rattle.layout.proofs.Ranges.{Ranged, ranged, laid-in}
+use Rattle.headers.specs.Angles.{form, northward, eastward, isAngle, degreesIn, letterIn, isOrigin, angleOf}
+use Rattle.headers.specs.Due.{originAt, levelAt, edgeOf, dueIn}
+use Rattle.headers.specs.Rules.{holds, angleHolds}
+use Rattle.fields.specs.Table.{fieldAt}
+use Rattle.headers.specs.Judged.{keeps, factsIn, judged, Follows}
+use Rattle.headers.specs.declared.angles.Axis.{Axis}
+use Rattle.headers.specs.declared.Due.{Due}
+use Rattle.headers.specs.declared.Facts.{Facts}
+use Rattle.headers.specs.declared.Judged.the-variants.{Good}
+use Rattle.headers.proofs.NearEdges.{edge-below}
+use Rattle.headers.proofs.Exactly.{good-follows}
+
+pub nothing-due : (s : List ℕ) (d e : Due) (i : ℕ) → i < 4 → keeps s d (fieldAt i) ≡ keeps s e (fieldAt i)
+unfolding holds angleHolds
+nothing-due s d e zero h = refl
+nothing-due s d e (suc zero) h = refl
+nothing-due s d e (suc (suc zero)) h = refl
+nothing-due s d e (suc (suc (suc zero))) h = refl
+nothing-due s d e (suc (suc (suc (suc i)))) h = absurd (omega arith)
+
+-- there are three levels
+third : (a b : Bool) → pick a 0 (pick b 1 2) < 3
+third true b = lit< tt
+third false true = lit< tt
+third false false = lit< tt
+
+pub level-below : (s : List ℕ) → levelAt s < 3
+unfolding levelAt
+level-below s = third (has s 24 (ascii "0300")) (has s 24 (ascii "0030"))
+
+-- the degrees of an origin, by whether its letter is the one side's or the other's
+side : (n most : ℕ) (plus minus : Bool) → (plus ≡ true → minus ≡ false)
+    → either (both plus (ltb n most)) (both minus (both (leb 1 n) (leb n most))) ≡ true → pick plus (most + n) (most - n) < most + most
+side n most true minus apart t =
+    by-test (ltb n most)
+    (λ w. omega (arith, ltb-true n most w))
+    (λ w. clash (both-true minus (both (leb 1 n) (leb n most)) (rw w at t) .0) (apart refl))
+side n most false minus apart t =
+    let within = both-true (leb 1 n) (leb n most) (both-true minus (both (leb 1 n) (leb n most)) t .1) in
+    omega (arith, leb-true 1 n (within .0), leb-true n most (within .1))
+
+-- an origin lies within its axis
+pub origin-below : (a : Axis) (degrees letter : ℕ) → (a .plus ≡ a .minus → ⊥) → isOrigin a degrees letter ≡ true
+    → angleOf a degrees letter < a .most + a .most
+origin-below a degrees letter apart =
+    side degrees (a .most) (eqb letter (a .plus)) (eqb letter (a .minus))
+    (λ t. ne-eqb letter (a .minus) (λ q. apart (sym (eqb-true letter (a .plus) t) ∙ q)))
+
+abbrev rulesOf : Axis → List ℕ → Bool
+rulesOf a t = isOrigin a (degreesIn (form 3 (ascii "0000")) t) (letterIn (form 3 (ascii "0000")) t)
+
+-- what the first four rules fix
+pub record Fixed (s : List ℕ) : Type 0 where
+  pub level : levelAt s < 3
+  pub latitude : originAt northward s 12 < 180
+  pub longitude : originAt eastward s 4 < 360
+
+pub fixed : (s : List ℕ) (d : Due) → ((i : ℕ) → i < 4 → keeps s d (fieldAt i) ≡ true) → Fixed s
+unfolding holds angleHolds originAt
+fixed s d kept =
+    let east = take 8 (drop 4 s) in
+    let north = take 8 (drop 12 s) in
+    record {
+      level = level-below s;
+      latitude =
+          origin-below northward (degreesIn (form 3 (ascii "0000")) north) (letterIn (form 3 (ascii "0000")) north) (λ q. eqb-false 78 83 refl q)
+          (both-true (isAngle (form 3 (ascii "0000")) north) (rulesOf northward north) (kept 2 (omega arith)) .1);
+      longitude =
+          origin-below eastward (degreesIn (form 3 (ascii "0000")) east) (letterIn (form 3 (ascii "0000")) east) (λ q. eqb-false 69 87 refl q)
+          (both-true (isAngle (form 3 (ascii "0000")) east) (rulesOf eastward east) (kept 1 (omega arith)) .1);
+    }
+
+-- and so the grid is laid out, and within its ranges
+module _ (s : List ℕ) (h : originAt northward s 12 < 180) where
+  pub grid-laid : laid (levelAt s) (edgeOf (originAt northward s 12)) ≡ Out (dueIn s .grid)
+  unfolding dueIn
+  grid-laid = laid-in (levelAt s) (edgeOf (originAt northward s 12)) (level-below s) (edge-below (originAt northward s 12) h)
+
+  pub grid-ranged : Ranged (dueIn s .grid)
+  unfolding dueIn
+  grid-ranged = ranged (levelAt s) (edgeOf (originAt northward s 12)) (level-below s) (edge-below (originAt northward s 12) h)
+
+-- what is due is then within its ranges
+pub due-within : (s : List ℕ) → Fixed s → (dueIn s .latitude < 180) × ((dueIn s .longitude < 360) × (dueIn s .grid .level < 3))
+unfolding dueIn
+due-within s f = (f .latitude, (f .longitude, grid-ranged s (f .latitude) .level))
+
+pub follows-fixed : (s : List ℕ) → Follows s → Fixed s
+follows-fixed s f = fixed s (dueIn s) (λ i h. f .1 i (omega arith))
+
+-- the facts of good headers
+pub record GoodFacts (s : List ℕ) (f : Facts) : Type 0 where
+  pub grid : Ranged (f .grid)
+  pub latitude : f .latitude < 180
+  pub longitude : f .longitude < 360
+  pub partial : f .partial < 100
+  pub laid : f .grid ≡ gridOf (levelAt s) (edgeOf (f .latitude))
+
+facts-within : (s : List ℕ) → Fixed s → GoodFacts s (factsIn s)
+unfolding factsIn dueIn
+facts-within s f = record {
+  grid = grid-ranged s (f .latitude);
+  latitude = f .latitude;
+  longitude = f .longitude;
+  partial = decimal-below s 369 2;
+  laid = refl;
+}
+
+pub good-facts : (s : List ℕ) (f : Facts) → judged s ≡ Good f → GoodFacts s f
+good-facts s f e =
+    let g = good-follows s f e in
+    rw (g .1) (facts-within s (follows-fixed s (g .0)))

@@ -1,0 +1,116 @@
+-- `judge`: the first four rows, then what they make due, then the rest.
+use Rattle.headers.proofs.judge.judge.Statement.{statement}
+use Rattle.headers.proofs.judge.judge.Tie as tie
+use Prim.Native.Nat.{_<_, _≤_}
+use Rattle.headers.proofs.FirstFour.{Fixed, due-within}
+use Rattle.headers.proofs.TwoParts.{early-refused, early-fixed, late-refused, all-kept}
+use Rattle.headers.specs.Due.{dueIn}
+use Rattle.headers.specs.Judged.{broken, factsIn, judged}
+use Rattle.fields.specs.Table.{fieldAt}
+use Rattle.headers.specs.declared.Due.{Due}
+use Rattle.headers.specs.declared.Judged.the-variants.{Good, Refused}
+use native.Mathlib.Omega.{arith}
+use borrow.Author.Needs.{needs}
+use Rattle.headers.proofs.Exactly.{judged-short}
+use mathlib.Core.Path.{_≡_, sym, ap, _∙_}
+
+-- what the code passes where nothing is due
+abbrev nothing : Due
+nothing = record {
+  grid = record {
+    level = 0;
+    factor = 0;
+    interval = record { latitude = 0; longitude = 0 };
+    columns = 0;
+    posts = 0;
+    bytes = record { column = 0; cell = 0 };
+  };
+  latitude = 0;
+  longitude = 0;
+  letter = 0;
+}
+
+-- past the first four rows
+fixed-here : (c : tie.Else2) → Fixed (c .before .before .before .before .args .s .now)
+fixed-here c = early-fixed _ (c .before .before .if1 .left) nothing _ (c .before .first-broken .ensures) (c .if2 .left)
+
+-- after the second search
+late-found : (c : tie.After-first-broken2) → let s = c .before .before .before .before .before .before .args .s .now in let i = c .first-broken2 .result in
+    (i < 40 → judged s ≡ Refused (broken s (dueIn s) (fieldAt i))) × (40 ≤ i → judged s ≡ Good (factsIn s))
+late-found c =
+    let b = c .before .before .before in
+    let late = rw (c .before .due-in .ensures) at (c .first-broken2 .ensures) in (
+      λ h. late-refused _ (b .before .if1 .left) nothing _ (b .first-broken .ensures) (c .before .before .if2 .left) _ late h,
+      λ h. all-kept _ (b .before .if1 .left) nothing _ (b .first-broken .ensures) (c .before .before .if2 .left) _ late h,
+    )
+
+returns : tie.Need-returns
+returns c = sym (judged-short _ (c .if1 .taken))
+
+first-broken-requires : tie.Need-first-broken-requires
+first-broken-requires c κs = search needs
+
+row-requires : tie.Need-row-requires
+row-requires c κs = search needs
+
+broken-requires : tie.Need-broken-requires
+broken-requires c κs = search needs
+
+returns-2 : tie.Need-returns-2
+returns-2 c =
+    let b = c .before .before .before in
+    let s = b .before .before .before .args .s .now in
+    ap Refused (c .broken .ensures ∙ ap (broken s nothing) (c .before .row .ensures))
+    ∙ sym (early-refused s (b .before .if1 .left) nothing (b .first-broken .result) (b .first-broken .ensures) (c .before .before .if2 .taken))
+
+due-in-requires : tie.Need-due-in-requires
+due-in-requires c κs = (c .before .before .if1 .left, fixed-here c .latitude)
+
+first-broken-requires-2 : tie.Need-first-broken-requires-2
+first-broken-requires-2 c κs = (omega arith, rw (c .due-in .ensures) (due-within _ (fixed-here (c .before))))
+
+row-requires-2 : tie.Need-row-requires-2
+row-requires-2 c κs = search needs
+
+broken-requires-2 : tie.Need-broken-requires-2
+broken-requires-2 c κs = search needs
+
+returns-3 : tie.Need-returns-3
+returns-3 c =
+    let b = c .before .before .before in
+    let s = b .before .before .before .before .before .before .args .s .now in
+    ap Refused
+    (c .broken2 .ensures ∙ ap (λ (d : Due). broken s d (c .before .row2 .result)) (b .before .due-in .ensures) ∙ ap (broken s (dueIn s)) (c .before .row2 .ensures))
+    ∙ sym (late-found b .0 (c .before .before .if3 .taken))
+
+decimal-requires : tie.Need-decimal-requires
+decimal-requires c κs = search needs
+
+returns-4 : tie.Need-returns-4
+unfolding factsIn
+returns-4 c =
+    let b = c .before .before .before in
+    ap Good (λ k. record {
+      grid = b .before .due-in .ensures k .grid;
+      latitude = b .before .due-in .ensures k .latitude;
+      longitude = b .before .due-in .ensures k .longitude;
+      partial = c .decimal .ensures .0 k;
+    })
+    ∙ sym (late-found b .1 (c .before .before .if3 .left))
+
+pub judge-spec : {M : Type 1} → statement M
+judge-spec =
+    tie.close
+    (tie.spec
+    returns
+    first-broken-requires
+    row-requires
+    broken-requires
+    returns-2
+    due-in-requires
+    first-broken-requires-2
+    row-requires-2
+    broken-requires-2
+    returns-3
+    decimal-requires
+    returns-4)

@@ -1,0 +1,137 @@
+// What each field must hold: one test to a kind of the field table.
+ghost use mathlib.Core.Path.{_≡_};
+ghost use Prim.Native.Nat.{_+_, _<_};
+ghost use lib.Dec.{eqb, leb};
+ghost use lib.ListN.{length, getD};
+ghost use Rattle.octets.specs.Choice.{both, either};
+ghost use Rattle.octets.specs.Digits.{digitsAt, decimalAt};
+ghost use Rattle.octets.specs.Texts.{ascii, has};
+ghost use Rattle.headers.specs.Rules.{textOf, isNumber, isAccuracy, isLetter, isVersion, holds, widthOf};
+use crate::Due;
+use crate::numbers::number;
+use fields::Kind;
+use fields::Text;
+use octets::choices::both;
+use octets::choices::either;
+use octets::digits::are_digits;
+use octets::digits::decimal;
+use octets::texts::stands;
+
+fn text_holds(text: Text, field: &[u8]) -> bool
+    requires { ⌜ length (now field) ≡ length (textOf text) ⌝ }
+    ensures { λ r. ⌜ r ≡ has (now (field .entry)) 0 (textOf text) ⌝ }
+{
+    match text {
+        Text::Uhl1 => stands(field, 0, &crate::texts::UHL1),
+        Text::Zero => stands(field, 0, &crate::texts::ZERO),
+        Text::Dsi => stands(field, 0, &crate::texts::DSI),
+        Text::Prf89020b => stands(field, 0, &crate::texts::PRF89020B),
+        Text::Wgs84 => stands(field, 0, &crate::texts::WGS84),
+        Text::Orientation => stands(field, 0, &crate::texts::ORIENTATION),
+        Text::Acc => stands(field, 0, &crate::texts::ACC),
+        Text::ZeroZero => stands(field, 0, &crate::texts::ZERO_ZERO),
+    }
+}
+
+fn number_holds(due: usize, field: &[u8]) -> bool
+    requires { ⌜ length (now field) ≡ 4 ⌝ }
+    ensures { λ r. ⌜ r ≡ isNumber due (now (field .entry)) ⌝ }
+{
+    both(are_digits(field, 0, 4), decimal(field, 0, 4) == due)
+}
+
+// Metres, or not available.
+fn accuracy_holds(field: &[u8]) -> bool
+    requires { ⌜ length (now field) ≡ 4 ⌝ }
+    ensures { λ r. ⌜ r ≡ isAccuracy (now (field .entry)) ⌝ }
+{
+    either(
+        are_digits(field, 0, 4),
+        stands(field, 0, &crate::texts::NOT_AVAILABLE),
+    )
+}
+
+// The latitude interval of one of the three levels.
+fn level_holds(field: &[u8]) -> bool
+    requires { ⌜ length (now field) ≡ 4 ⌝ }
+    ensures { λ r. ⌜ r ≡ either (has (now (field .entry)) 0 (ascii "0300")) (either (has (now (field .entry)) 0 (ascii "0030")) (has (now (field .entry)) 0 (ascii "0010"))) ⌝ }
+{
+    either(
+        stands(field, 0, &crate::texts::LEVEL0),
+        either(
+            stands(field, 0, &crate::texts::LEVEL1),
+            stands(field, 0, &crate::texts::LEVEL2),
+        ),
+    )
+}
+
+// Whether a byte is a security letter.
+pub fn is_letter(b: u8) -> bool
+    ensures { λ r. ⌜ r ≡ isLetter b ⌝ }
+{
+    either(b == b'S', either(b == b'C', either(b == b'U', b == b'R')))
+}
+
+fn security_holds(field: &[u8]) -> bool
+    requires { ⌜ length (now field) ≡ 3 ⌝ }
+    ensures { λ r. ⌜ r ≡ both (isLetter (getD (now (field .entry)) 0 0)) (has (now (field .entry)) 1 (ascii "  ")) ⌝ }
+{
+    both(is_letter(field[0]), stands(field, 1, &crate::texts::BLANKS))
+}
+
+fn series_holds(level: usize, field: &[u8]) -> bool
+    requires { ⌜ (length (now field) ≡ 5) × (level < 3) ⌝ }
+    ensures { λ r. ⌜ r ≡ both (has (now (field .entry)) 0 (ascii "DTED")) (eqb (getD (now (field .entry)) 4 0) (0x30 + level)) ⌝ }
+{
+    both(
+        stands(field, 0, &crate::texts::DTED),
+        field[4] == b'0' + level as u8,
+    )
+}
+
+fn edition_holds(field: &[u8]) -> bool
+    requires { ⌜ length (now field) ≡ 2 ⌝ }
+    ensures { λ r. ⌜ r ≡ both (digitsAt (now (field .entry)) 0 2) (leb 1 (decimalAt (now (field .entry)) 0 2)) ⌝ }
+{
+    both(are_digits(field, 0, 2), 1 <= decimal(field, 0, 2))
+}
+
+// Whether a byte is a version.
+pub fn is_version(b: u8) -> bool
+    ensures { λ r. ⌜ r ≡ isVersion b ⌝ }
+{
+    both(b'A' <= b, b <= b'Z')
+}
+
+// One of the two vertical datums.
+fn vertical_holds(field: &[u8]) -> bool
+    requires { ⌜ length (now field) ≡ 3 ⌝ }
+    ensures { λ r. ⌜ r ≡ either (has (now (field .entry)) 0 (ascii "MSL")) (has (now (field .entry)) 0 (ascii "E96")) ⌝ }
+{
+    either(
+        stands(field, 0, &crate::texts::MSL),
+        stands(field, 0, &crate::texts::E96),
+    )
+}
+
+// Whether a field of this kind keeps its rule, given what is due.
+pub fn keeps(kind: Kind, due: Due, field: &[u8]) -> bool
+    requires { ⌜ (length (now field) ≡ widthOf kind) × ((due .latitude < 180) × ((due .longitude < 360) × (due .grid .level < 3))) ⌝ }
+    ensures { λ r. ⌜ r ≡ holds kind due (now (field .entry)) ⌝ }
+{
+    let grid = due.grid;
+    match kind {
+        Kind::Fixed(text) => text_holds(text, field),
+        Kind::Due(n) => number_holds(number(n, grid), field),
+        Kind::At(angle) => crate::bearings::angle_holds(angle, due, field),
+        Kind::Accurate(_) => accuracy_holds(field),
+        Kind::Level => level_holds(field),
+        Kind::Security => security_holds(field),
+        Kind::Letter => field[0] == due.letter,
+        Kind::Series => series_holds(grid.level, field),
+        Kind::Edition => edition_holds(field),
+        Kind::Version => is_version(field[0]),
+        Kind::Vertical => vertical_holds(field),
+        Kind::Indicator => are_digits(field, 0, 2),
+    }
+}

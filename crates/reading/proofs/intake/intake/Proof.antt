@@ -1,0 +1,55 @@
+-- `intake`: the headers, then the columns that they make due.
+use Rattle.headers.proofs.Exactly.{good-follows}
+use Rattle.headers.proofs.FirstFour.{GoodFacts, good-facts}
+use Rattle.headers.specs.Judged.{judged}
+use Rattle.headers.specs.declared.Judged.the-variants.{Good}
+use Rattle.reading.proofs.intake.intake.Statement.{statement}
+use Rattle.reading.proofs.intake.intake.Tie as tie
+use Rattle.reading.specs.Intake.{taken, takenBy}
+use borrow.Author.Needs.{needs}
+use mathlib.Core.Path.{_≡_, sym, ap, _∙_}
+use native.Mathlib.Omega.{arith}
+
+good : (c : tie.After-known-told) → judged (c .before .before .before .before .before .args .cell .now) ≡ Good (c .before .judged .given .0 .0)
+good c = sym (c .before .before .before .judge .ensures) ∙ c .before .judged .given .1
+
+judge-requires : tie.Need-judge-requires
+judge-requires c κs = search needs
+
+enum-known-judged : tie.Need-enum-known-judged
+enum-known-judged c = search needs
+
+may-hold-voids-requires : tie.Need-may-hold-voids-requires
+may-hold-voids-requires c κs = search needs
+
+take-columns-requires : tie.Need-take-columns-requires
+take-columns-requires c κs =
+    let k = c .before .before in
+    let s = k .before .before .before .before .before .args .cell .now in
+    let f = good-facts s _ (good k) .grid in
+    (good-follows s _ (good k) .0 .0, (f .posts-high, f .column))
+
+enum-known-judged-2 : tie.Need-enum-known-judged-2
+enum-known-judged-2 c = search needs
+
+returns : tie.Need-returns
+unfolding taken
+returns c =
+    let k = c .before .before .before in
+    rw (good k, ← c .before .may-hold-voids .ensures) (c .take-columns .ensures)
+
+returns-2 : tie.Need-returns-2
+unfolding taken
+returns-2 c = rw (sym (c .before .before .before .judge .ensures) ∙ c .before .judged2 .given .1)
+
+pub intake-spec : {M : Type 1} → statement M
+intake-spec =
+    tie.close
+    (tie.spec
+    judge-requires
+    enum-known-judged
+    may-hold-voids-requires
+    take-columns-requires
+    enum-known-judged-2
+    returns
+    returns-2)

@@ -1,0 +1,4 @@
+-- What a cell is, and what intake answers of any bytes.
+pub mod Cell
+pub mod Intake
+pub mod Steps

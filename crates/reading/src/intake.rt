@@ -1,0 +1,83 @@
+// Intake of a whole cell from any bytes: the headers, then column after column from the west.
+ghost use mathlib.Core.Path.{_≡_};
+ghost use Prim.Native.Nat.{_+_, _*_, _≤_};
+ghost use lib.ListN.{length};
+ghost use Rattle.answers.specs.Told as told;
+ghost use Rattle.reading.specs.Intake.{columnsFrom, ended, taken};
+use answers::Refusal;
+use answers::Verdict;
+use columns::Judged;
+use columns::judge_head;
+use headers::judge::may_hold_voids;
+use layout::Grid;
+use layout::HEADER_BYTES;
+use octets::numbers::be16;
+use posts::words::is_allowed;
+
+// What is answered after the last column, of so many bytes.
+pub fn end(long: usize, grid: Grid) -> Verdict
+    ensures { λ r. ⌜ told.told told.intake r ≡ ended long grid ⌝ }
+{
+    let bytes = grid.bytes;
+    if long == bytes.cell {
+        Verdict::Accepted {
+            level: grid.level,
+            columns: grid.columns,
+            posts: grid.posts,
+        }
+    } else {
+        Verdict::Refused(Refusal::Surplus(bytes.cell))
+    }
+}
+
+// The columns of a cell, left from inside at the first fault.
+fn take_columns(cell: &[u8], grid: Grid, voids: bool) -> Verdict
+    requires { ⌜ (3428 ≤ length (now cell)) × ((grid .posts ≤ 3601) × (grid .bytes .column ≡ 12 + 2 * grid .posts)) ⌝ }
+    ensures { λ r. ⌜ told.told told.intake r ≡ columnsFrom (now (cell .entry)) grid voids 0 (grid .columns) ⌝ }
+{
+    let bytes = grid.bytes;
+    let size = bytes.column;
+    let columns = grid.columns;
+    let posts = grid.posts;
+    let mut k = 0;
+    let mut base = HEADER_BYTES;
+    let found = 'columns: loop {
+        if columns <= k {
+            break 'columns end(cell.len(), grid);
+        }
+        if cell.len() - base < size {
+            break 'columns Verdict::Refused(Refusal::Cut(base));
+        }
+        let next = base + size;
+        let column = &cell[base..next];
+        let head = judge_head(column, k, posts, base);
+        if let Judged::Refused(refusal) = head {
+            break 'columns Verdict::Refused(refusal);
+        }
+        let mut i = 0;
+        while i < posts {
+            let at = 8 + 2 * i;
+            if !is_allowed(be16(column, at), voids) {
+                break 'columns Verdict::Refused(Refusal::Word(base + at));
+            }
+            i += 1;
+        }
+        k += 1;
+        base = next;
+    };
+    found
+}
+
+// Accepted with level, columns and posts, or refused with the first fault; any bytes.
+pub fn intake(cell: &[u8]) -> Verdict
+    ensures { λ r. ⌜ told.told told.intake r ≡ taken (now (cell .entry)) ⌝ }
+{
+    let judged = headers::judge::judge(cell);
+    match judged {
+        headers::Judged::Good(facts) => {
+            let grid = facts.grid;
+            take_columns(cell, grid, may_hold_voids(facts))
+        }
+        headers::Judged::Refused(refusal) => Verdict::Refused(refusal),
+    }
+}

@@ -1,0 +1,3 @@
+// Reading a cell: intake of the whole, and intake step by step.
+pub mod intake;
+pub mod steps;
