@@ -4,8 +4,14 @@
 check:
 	@tools/check
 
-run:
-	@echo 'run: the intake program is not built yet' >&2; exit 1
+# any other cell: make run CELL=path
+CELL ?= cells/north_89.dt0
+
+run: target/bin/intake
+	@tools/intake < $(CELL)
+
+target/bin/intake:
+	@rt check intake >&2
 
 fmt:
 	@rt fmt

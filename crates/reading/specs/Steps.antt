@@ -9,7 +9,7 @@ use Rattle.octets.specs.Choice.{pick}
 use Rattle.answers.specs.Told as said
 use Rattle.answers.specs.declared.Verdict.{Verdict}
 use Rattle.answers.specs.declared.Verdict.the-variants as verdict
-use Rattle.layout.specs.Grid.{laid}
+use Rattle.layout.specs.Grid.{laid, headerBytes}
 use Rattle.layout.specs.declared.Grid.{Grid}
 use Rattle.layout.specs.declared.Laid.{Laid}
 use Rattle.layout.specs.declared.Laid.the-variants.{Out, NoLevel, NoZone}
@@ -49,6 +49,17 @@ abbrev pub saidOf : Phase → List ℕ → said.Told
 saidOf Headers piece = saidOfHeaders (judged piece)
 saidOf (Columns d) piece = saidOfLaid (laid (d .level) (d .edge)) (d .voids) (d .next) piece
 saidOf (Over v) piece = said.told said.intake v
+
+-- S7: how many bytes the next piece should have: a column's, or one after the last, to see whether anything follows
+abbrev pub wantedOf : Laid → ℕ → ℕ
+wantedOf (Out g) k = pick (ltb k (g .columns)) (g .bytes .column) 1
+wantedOf NoLevel k = 0
+wantedOf NoZone k = 0
+
+abbrev pub wanted : Phase → ℕ
+wanted Headers = headerBytes
+wanted (Columns d) = wantedOf (laid (d .level) (d .edge)) (d .next)
+wanted (Over v) = 0
 
 -- S1: what is due once a piece was good
 abbrev pub dueAfter : Judged → Phase

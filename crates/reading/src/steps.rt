@@ -2,7 +2,7 @@
 ghost use mathlib.Core.Path.{_≡_};
 ghost use Prim.Native.Nat.{_+_, _*_, _<_, _≤_};
 ghost use Rattle.answers.specs.Told as told;
-ghost use Rattle.reading.specs.Steps.{saidOf, saidOfColumn, Step};
+ghost use Rattle.reading.specs.Steps.{saidOf, saidOfColumn, Step, wanted};
 use crate::intake::end;
 use answers::Refusal;
 use answers::Verdict;
@@ -136,12 +136,43 @@ fn column_step(due: Due, piece: &[u8]) -> Stepped
     }
 }
 
+// How many bytes the next column has; one after the last, to see whether anything follows.
+fn column_wanted(due: Due) -> usize
+    ensures { λ r. ⌜ (r ≡ wanted (Phase.Columns due)) × (r ≤ 7214) ⌝ }
+{
+    let laid = layout::lay(due.level, due.edge);
+    match laid {
+        Laid::Out(grid) => {
+            let bytes = grid.bytes;
+            if due.next < grid.columns {
+                bytes.column
+            } else {
+                1
+            }
+        }
+        Laid::NoLevel => 0,
+        Laid::NoZone => 0,
+    }
+}
+
 impl Steps {
     pub fn new() -> Self
         ensures { λ r. ⌜ r .phase ≡ Phase.Headers ⌝ }
     {
         Self {
             phase: Phase::Headers,
+        }
+    }
+
+    // How many bytes the next piece should have.
+    pub fn wanted(self) -> usize
+        ensures { λ r. ⌜ (r ≡ wanted (self .phase)) × (r ≤ 7214) ⌝ }
+    {
+        let phase = self.phase;
+        match phase {
+            Phase::Headers => HEADER_BYTES,
+            Phase::Columns(due) => column_wanted(due),
+            Phase::Over(_) => 0,
         }
     }
 

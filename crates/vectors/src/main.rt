@@ -1,0 +1,98 @@
+// The examples that are run, not marked: lengths from the layout, and intake of the cell on standard input, changed in known ways.
+use headers::Accuracies;
+use headers::Accuracy;
+use headers::Datum;
+use headers::Description;
+use layout::Laid;
+
+const INPUT: i32 = 0;
+
+const OUTPUT: i32 = 1;
+
+// A level 0 cell of zone I, and one byte more.
+const CELL: usize = 34162;
+
+const ROOM: usize = 34163;
+
+// The length of a zone I cell of a level.
+fn print_length(level: usize) {
+    let laid = layout::lay(level, 0);
+    match laid {
+        Laid::Out(grid) => {
+            let bytes = grid.bytes;
+            io::print_decimal(OUTPUT, bytes.cell as u64);
+            io::write_all(OUTPUT, b" bytes\n");
+        }
+        Laid::NoLevel => {}
+        Laid::NoZone => {}
+    }
+}
+
+// Intake of the first n bytes.
+fn judge(cell: &[u8], n: usize) {
+    if n <= cell.len() {
+        printing::verdict(OUTPUT, reading::intake::intake(&cell[..n]));
+    }
+}
+
+// Post 0 of column 0 made void, and the checksum mended.
+fn put_void(cell: &mut [u8]) {
+    if CELL <= cell.len() {
+        octets::numbers::put16(cell, 3436, 0xFFFF);
+        let sum = octets::sums::sum(&cell[3428..3678]);
+        octets::numbers::put32(cell, 3678, sum);
+    }
+}
+
+// An origin of 0 N and this longitude, counted from 180 W, in a complete or a partial cell.
+fn description(longitude: usize, partial: usize) -> Description {
+    Description {
+        level: 0,
+        latitude: 90,
+        longitude,
+        security: b'U',
+        edition: 1,
+        version: b'A',
+        datum: Datum::E96,
+        uhl: Accuracy::Unknown,
+        absolute: Accuracies {
+            horizontal: Accuracy::Unknown,
+            vertical: Accuracy::Unknown,
+        },
+        relative: Accuracies {
+            horizontal: Accuracy::Metres(15),
+            vertical: Accuracy::Metres(9999),
+        },
+        partial,
+    }
+}
+
+// Headers of this description over those of the cell, where its items are in range.
+fn put_headers(cell: &mut [u8], d: Description) {
+    if CELL <= cell.len() {
+        if headers::items::bad_item(d) == 0 {
+            headers::write::put_headers(cell, d);
+        }
+    }
+}
+
+fn main() {
+    print_length(0);
+    print_length(1);
+    print_length(2);
+    let mut cell = [0u8; ROOM];
+    io::read_full(INPUT, &mut cell);
+    judge(&cell, 3427);
+    judge(&cell, 3428);
+    judge(&cell, CELL - 1);
+    judge(&cell, CELL);
+    judge(&cell, ROOM);
+    put_headers(&mut cell, description(0, 0));
+    judge(&cell, CELL);
+    put_headers(&mut cell, description(359, 0));
+    judge(&cell, CELL);
+    put_void(&mut cell);
+    judge(&cell, CELL);
+    put_headers(&mut cell, description(359, 7));
+    judge(&cell, CELL);
+}
