@@ -5,5 +5,8 @@ pub mod Kept
 pub mod EveryColumn
 pub mod CellExactly
 pub mod OneByte
+pub mod PostReached
+pub mod ReachedExactly
+pub mod LookupLaws
 pub mod StepByStep
 pub mod StepsWhole

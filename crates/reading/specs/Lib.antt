@@ -1,4 +1,6 @@
--- What a cell is, and what intake answers of any bytes.
+-- What a cell is, and what intake and lookup answer of any bytes.
 pub mod Cell
 pub mod Intake
 pub mod Steps
+pub mod Reach
+pub mod Lookup

@@ -1,3 +1,5 @@
-// Reading a cell: intake of the whole, and intake step by step.
+// Reading a cell: intake of the whole, intake step by step, and lookup of one post.
 pub mod intake;
+pub mod lookup;
+pub mod reach;
 pub mod steps;
