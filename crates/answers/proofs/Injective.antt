@@ -4,11 +4,12 @@ use mathlib.Core.Path.{_≡_, refl, sym, ap, _∙_}
 use lib.IntN.{ℤ}
 use mathlib.Core.List.{List, [], _∷_}
 use lib.ListN.{getD}
-use Rattle.answers.specs.Told.{Told, refused, more, accepted, height, void, done, numbered, numberTold, placeTold, Kind, intake, post, act, Answer, told}
+use Rattle.answers.specs.Told.{Told, refused, more, accepted, height, void, heightAt, voidAt, done, numbered, numberTold, placeTold, Kind, intake, post, position, act, Answer, told}
 use Rattle.answers.specs.declared.Refusal.{Refusal}
 use Rattle.answers.specs.declared.Refusal.the-variants as because
 use Rattle.answers.specs.declared.Verdict.the-variants as verdict
 use Rattle.answers.specs.declared.Reading.the-variants as reading
+use Rattle.answers.specs.declared.Located.the-variants as located
 use Rattle.answers.specs.declared.Outcome.the-variants as outcome
 
 -- the refusals in the order of their numbers, each at this place; number 0 stands for none
@@ -33,25 +34,39 @@ refusals place =
 abbrev refusedAs : (k : Kind) → Refusal → Answer k
 refusedAs intake r = verdict.Refused r
 refusedAs post r = reading.Refused r
+refusedAs position r = located.Refused r
 refusedAs act r = outcome.Refused r
 
 -- the answer of a kind that was told; what no answer of that kind tells gives some refusal
 abbrev answerOf : Told → (k : Kind) → Answer k
 answerOf (refused number place) k = refusedAs k (getD (refusals place) number because.OffGrid)
 answerOf more intake = verdict.More
-answerOf more post = reading.Refused because.OffGrid
-answerOf more act = outcome.Refused because.OffGrid
+answerOf more post = refusedAs post because.OffGrid
+answerOf more position = refusedAs position because.OffGrid
+answerOf more act = refusedAs act because.OffGrid
 answerOf (accepted level columns posts) intake = verdict.Accepted level columns posts
-answerOf (accepted level columns posts) post = reading.Refused because.OffGrid
-answerOf (accepted level columns posts) act = outcome.Refused because.OffGrid
-answerOf (height z) intake = verdict.Refused because.OffGrid
+answerOf (accepted level columns posts) post = refusedAs post because.OffGrid
+answerOf (accepted level columns posts) position = refusedAs position because.OffGrid
+answerOf (accepted level columns posts) act = refusedAs act because.OffGrid
+answerOf (height z) intake = refusedAs intake because.OffGrid
 answerOf (height z) post = reading.Height z
-answerOf (height z) act = outcome.Refused because.OffGrid
-answerOf void intake = verdict.Refused because.OffGrid
+answerOf (height z) position = refusedAs position because.OffGrid
+answerOf (height z) act = refusedAs act because.OffGrid
+answerOf void intake = refusedAs intake because.OffGrid
 answerOf void post = reading.Void
-answerOf void act = outcome.Refused because.OffGrid
-answerOf done intake = verdict.Refused because.OffGrid
-answerOf done post = reading.Refused because.OffGrid
+answerOf void position = refusedAs position because.OffGrid
+answerOf void act = refusedAs act because.OffGrid
+answerOf (heightAt column number z) intake = refusedAs intake because.OffGrid
+answerOf (heightAt column number z) post = refusedAs post because.OffGrid
+answerOf (heightAt column number z) position = located.Height column number z
+answerOf (heightAt column number z) act = refusedAs act because.OffGrid
+answerOf (voidAt column number) intake = refusedAs intake because.OffGrid
+answerOf (voidAt column number) post = refusedAs post because.OffGrid
+answerOf (voidAt column number) position = located.Void column number
+answerOf (voidAt column number) act = refusedAs act because.OffGrid
+answerOf done intake = refusedAs intake because.OffGrid
+answerOf done post = refusedAs post because.OffGrid
+answerOf done position = refusedAs position because.OffGrid
 answerOf done act = outcome.Done
 
 refused-back : (k : Kind) (r : Refusal) → answerOf (numbered r) k ≡ refusedAs k r
@@ -75,6 +90,9 @@ told-back intake (verdict.Refused r) = refused-back intake r
 told-back post (reading.Height z) = refl
 told-back post reading.Void = refl
 told-back post (reading.Refused r) = refused-back post r
+told-back position (located.Height column number z) = refl
+told-back position (located.Void column number) = refl
+told-back position (located.Refused r) = refused-back position r
 told-back act outcome.Done = refl
 told-back act (outcome.Refused r) = refused-back act r
 

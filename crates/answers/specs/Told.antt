@@ -7,6 +7,8 @@ use Rattle.answers.specs.declared.Verdict.{Verdict}
 use Rattle.answers.specs.declared.Verdict.the-variants as verdict
 use Rattle.answers.specs.declared.Reading.{Reading}
 use Rattle.answers.specs.declared.Reading.the-variants as reading
+use Rattle.answers.specs.declared.Located.{Located}
+use Rattle.answers.specs.declared.Located.the-variants as located
 use Rattle.answers.specs.declared.Outcome.{Outcome}
 use Rattle.answers.specs.declared.Outcome.the-variants as outcome
 
@@ -20,6 +22,9 @@ pub data Told : Type 0 where
   accepted : ℕ → ℕ → ℕ → Told
   height : ℤ → Told
   void : Told
+  -- column and post number, and the height or void there
+  heightAt : ℕ → ℕ → ℤ → Told
+  voidAt : ℕ → ℕ → Told
   done : Told
 
 -- N1 to N12: the number of each refusal, and its place
@@ -44,6 +49,8 @@ numberTold more = 0
 numberTold (accepted level columns posts) = 0
 numberTold (height z) = 0
 numberTold void = 0
+numberTold (heightAt column number z) = 0
+numberTold (voidAt column number) = 0
 numberTold done = 0
 
 abbrev pub placeTold : Told → ℕ
@@ -52,17 +59,21 @@ placeTold more = 0
 placeTold (accepted level columns posts) = 0
 placeTold (height z) = 0
 placeTold void = 0
+placeTold (heightAt column number z) = 0
+placeTold (voidAt column number) = 0
 placeTold done = 0
 
 -- the kinds of answers, and the type of each
 pub data Kind : Type 0 where
   intake : Kind
   post : Kind
+  position : Kind
   act : Kind
 
 abbrev pub Answer : Kind → Type 0
 Answer intake = Verdict
 Answer post = Reading
+Answer position = Located
 Answer act = Outcome
 
 -- what an answer tells
@@ -73,5 +84,8 @@ told intake (verdict.Refused r) = numbered r
 told post (reading.Height z) = height z
 told post reading.Void = void
 told post (reading.Refused r) = numbered r
+told position (located.Height column number z) = heightAt column number z
+told position (located.Void column number) = voidAt column number
+told position (located.Refused r) = numbered r
 told act outcome.Done = done
 told act (outcome.Refused r) = numbered r

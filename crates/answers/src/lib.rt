@@ -49,6 +49,20 @@ pub enum Reading {
     Refused(Refusal),
 }
 
+// What a lookup of a position answers: the nearest post, and what it reads as.
+pub enum Located {
+    Height {
+        column: usize,
+        post: usize,
+        metres: i16,
+    },
+    Void {
+        column: usize,
+        post: usize,
+    },
+    Refused(Refusal),
+}
+
 // What an edit or a writer answers.
 pub enum Outcome {
     Done,

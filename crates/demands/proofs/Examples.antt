@@ -3,14 +3,16 @@ use mathlib.Core.Path.{_≡_, refl}
 use mathlib.Core.List.{map}
 use Rattle.layout.specs.Levels.{latitudeInterval, postsOf}
 use Rattle.layout.specs.Zones.{nearEdge, factorAmong, factorOf}
-use Rattle.layout.specs.Grid.{longitudeInterval, columnsOf, cellBytes}
+use Rattle.layout.specs.Grid.{longitudeInterval, columnsOf, cellBytes, gridOf}
+use Rattle.headers.specs.Due.{edgeOf}
 use Rattle.octets.specs.Places.{places}
 use Rattle.octets.specs.Sums.{sumOf}
 use Rattle.columns.specs.Column.{preamble, wordsOf, sealed, columnOf}
 use Rattle.posts.specs.Heights.{wordOf}
 use Rattle.posts.specs.Words.{heightOf, postOf, inRange, wordAllowed}
+use Rattle.reading.specs.Position.{southWest}
 use Rattle.demands.specs.Marked.{made, givens, answers}
 
 pub marked : map made givens ≡ answers
-unfolding made nearEdge factorAmong factorOf latitudeInterval postsOf longitudeInterval columnsOf cellBytes heightOf postOf inRange wordAllowed wordOf places sumOf preamble wordsOf sealed columnOf
+unfolding made nearEdge factorAmong factorOf latitudeInterval postsOf longitudeInterval columnsOf cellBytes gridOf edgeOf southWest heightOf postOf inRange wordAllowed wordOf places sumOf preamble wordsOf sealed columnOf
 marked = refl

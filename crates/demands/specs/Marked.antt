@@ -1,16 +1,22 @@
 -- The marked examples (rules M1 to M12): what is given, what it is, and what the definitions make of it.
-use Prim.Native.Nat.{ℕ}
+use Prim.Native.Nat.{ℕ, _+_, _*_}
 use mathlib.Core.Bool.{true}
 use mathlib.Core.List.{List, [], _∷_, map}
 use lib.IntN.{ℤ, pos, negℤ}
 use lib.ListN.{length, drop, replicate}
 use Rattle.octets.specs.Choice.{pick}
 use Rattle.layout.specs.Zones.{nearEdge}
-use Rattle.layout.specs.Grid.{longitudeInterval, columnsOf, cellBytes}
+use Rattle.layout.specs.Grid.{longitudeInterval, columnsOf, cellBytes, gridOf}
 use Rattle.columns.specs.Column.{sealed, columnOf, sumAt}
+use Rattle.headers.specs.Due.{edgeOf}
+use Rattle.headers.specs.declared.Facts.{Facts}
 use Rattle.posts.specs.Words.{wordAllowed, postOf}
 use Rattle.posts.specs.declared.Post.{Post}
 use Rattle.posts.specs.declared.Post.the-variants.{Height, Void}
+use Rattle.layout.specs.Levels.{degree}
+use Rattle.reading.specs.Position.{southWest, nearestColumn, nearestPost}
+use Rattle.reading.specs.declared.position.Within.{Within}
+use Rattle.reading.specs.declared.position.Within.the-variants as within
 
 -- a whole-degree latitude, north or south
 abbrev pub north : ℕ → ℤ
@@ -30,6 +36,8 @@ pub data Given : Type 0 where
   -- the checksum after these bytes, and of the column with this number and these heights
   checksum : List ℕ → Given
   column : ℕ → List ℤ → Given
+  -- the post nearest a position, in tenths north and east of an origin so many degrees north and east
+  nearest : ℕ → ℕ → ℕ → ℕ → ℕ → Given
 
 -- what it is
 pub data Is : Type 0 where
@@ -38,10 +46,25 @@ pub data Is : Type 0 where
   void : Is
   refused : Is
   octets : List ℕ → Is
+  -- column and post
+  post : ℕ → ℕ → Is
 
 abbrev pub postIs : Post → Is
 postIs (Height z) = metres z
 postIs Void = void
+
+-- a complete cell of this level, its origin so many degrees north and east
+abbrev pub cellAt : ℕ → ℕ → ℕ → Facts
+cellAt level up right = record {
+  grid = gridOf level (edgeOf (90 + up));
+  latitude = 90 + up;
+  longitude = 180 + right;
+  partial = 0;
+}
+
+abbrev pub nearestIs : Facts → Within → Is
+nearestIs f (within.In k) = post (nearestColumn f k) (nearestPost f k)
+nearestIs f within.Off = refused
 
 -- what the definitions make of what is given
 unfoldable pub made : Given → Is
@@ -50,6 +73,8 @@ made (columns level latitude) = number (columnsOf level (nearEdge latitude))
 made (bytes level latitude) = number (cellBytes level (nearEdge latitude))
 made (checksum body) = octets (drop (length body) (sealed body))
 made (column k zs) = octets (drop (sumAt (length zs)) (columnOf k zs))
+made (nearest level up right northward eastward) =
+    nearestIs (cellAt level up right) (southWest (cellAt level up right) (pos (up * degree + northward)) (pos (right * degree + eastward)))
 made (word w) = pick (wordAllowed true w) (postIs (postOf w)) refused
 
 -- a row of the table
@@ -80,6 +105,7 @@ table =
     ∷ m 9 (checksum (0xAA ∷ 0 ∷ 0 ∷ 0 ∷ 0 ∷ 0 ∷ 0 ∷ 0 ∷ 0x23 ∷ 0x28 ∷ [])) (octets (0 ∷ 0 ∷ 0 ∷ 0xF5 ∷ []))
     ∷ m 10 (checksum (0xAA ∷ 0 ∷ 0 ∷ 0 ∷ 0 ∷ 0 ∷ 0 ∷ 0 ∷ 0x80 ∷ 0x01 ∷ [])) (octets (0 ∷ 0 ∷ 1 ∷ 0x2B ∷ []))
     ∷ m 11 (column 300 (replicate 1201 (pos 0))) (octets (0 ∷ 0 ∷ 1 ∷ 4 ∷ []))
+    ∷ m 12 (nearest 1 46 7 15 46) (post 2 0)
     ∷ []
 
 -- what is given and what it is, row by row

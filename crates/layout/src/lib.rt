@@ -6,7 +6,7 @@ mod levels;
 pub mod zones;
 
 // Tenths of an arc-second in a degree.
-const DEGREE: usize = 36000;
+pub const DEGREE: usize = 36000;
 
 pub const HEADER_BYTES: usize = 3428;
 

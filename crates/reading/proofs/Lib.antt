@@ -8,5 +8,9 @@ pub mod OneByte
 pub mod PostReached
 pub mod ReachedExactly
 pub mod LookupLaws
+pub mod Positions
+pub mod Nearest
+pub mod Offsets
+pub mod PositionExactly
 pub mod StepByStep
 pub mod StepsWhole

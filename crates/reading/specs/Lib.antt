@@ -4,3 +4,4 @@ pub mod Intake
 pub mod Steps
 pub mod Reach
 pub mod Lookup
+pub mod Position
