@@ -2,3 +2,4 @@
 pub mod WordSearch
 pub mod Exactly
 pub mod Damage
+pub mod WrittenColumn

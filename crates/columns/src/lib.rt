@@ -1,8 +1,11 @@
-// One data column: its preamble, its checksum and its post words, judged over any number of posts.
+// One data column: its preamble, its checksum and its post words, judged and written over any number of posts.
 ghost use mathlib.Core.Path.{_≡_};
 ghost use Prim.Native.Nat.{_+_, _*_, _^_, _<_, _≤_};
 ghost use lib.ListN.{length};
 ghost use Rattle.columns.specs.Judged.{headOf, judgedColumn};
+
+pub mod write;
+
 use answers::Refusal;
 use octets::numbers::be16;
 use octets::numbers::be24;
