@@ -7,16 +7,3 @@ pub mod Exactly
 pub mod FirstFour
 pub mod TwoParts
 pub mod SameHeaders
-pub mod RangedItems
-pub mod LaidGrids
-pub mod Puts
-pub mod TextWidths
-pub mod TableTurns
-pub mod Parts
-pub mod FieldsApart
-pub mod WrittenLength
-pub mod AngleTexts
-pub mod DueBack
-pub mod WrittenHolds
-pub mod RoundTrip
-pub mod WrittenGood

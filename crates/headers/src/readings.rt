@@ -1,15 +1,11 @@
 // What stands in the headers, read as numbers.
 ghost use mathlib.Core.Path.{_≡_};
-ghost use Prim.Native.Nat.{_+_, _≤_};
+ghost use Prim.Native.Nat.{_≤_};
 ghost use lib.ListN.{length};
 ghost use Rattle.octets.specs.Texts.{ascii};
 ghost use Rattle.headers.specs.Angles.{form, degreesIn, letterIn, angleOf};
 ghost use Rattle.headers.specs.Due.{levelAt};
-ghost use Rattle.headers.specs.Described.{accuracyAt, datumAt};
-use crate::Accuracy;
-use crate::Datum;
 use crate::angles::Axis;
-use octets::digits::are_digits;
 use octets::digits::decimal;
 use octets::texts::stands;
 
@@ -38,26 +34,4 @@ pub fn level_at(s: &[u8]) -> usize
         return 1;
     }
     2
-}
-
-pub fn accuracy_at(s: &[u8], at: usize) -> Accuracy
-    requires { ⌜ at + 4 ≤ length (now s) ⌝ }
-    ensures { λ r. ⌜ r ≡ accuracyAt (now (s .entry)) at ⌝ }
-{
-    if are_digits(s, at, 4) {
-        Accuracy::Metres(decimal(s, at, 4) as u16)
-    } else {
-        Accuracy::Unknown
-    }
-}
-
-pub fn datum_at(s: &[u8], at: usize) -> Datum
-    requires { ⌜ at + 3 ≤ length (now s) ⌝ }
-    ensures { λ r. ⌜ r ≡ datumAt (now (s .entry)) at ⌝ }
-{
-    if stands(s, at, &crate::texts::MSL) {
-        Datum::Msl
-    } else {
-        Datum::E96
-    }
 }

@@ -6,8 +6,10 @@ ghost use lib.ListN.{length, getD};
 ghost use Rattle.octets.specs.Choice.{both, either};
 ghost use Rattle.octets.specs.Digits.{digitsAt, decimalAt};
 ghost use Rattle.octets.specs.Texts.{ascii, has};
-ghost use Rattle.headers.specs.Rules.{textOf, isNumber, isAccuracy, isLetter, isVersion, holds, widthOf};
+ghost use Rattle.headers.specs.Rules.{textOf, isNumber, isAccuracy, isLetter, holds, widthOf};
 use crate::Due;
+use crate::letters::is_letter;
+use crate::letters::is_version;
 use crate::numbers::number;
 use fields::Kind;
 use fields::Text;
@@ -65,13 +67,6 @@ fn level_holds(field: &[u8]) -> bool
     )
 }
 
-// Whether a byte is a security letter.
-pub fn is_letter(b: u8) -> bool
-    ensures { λ r. ⌜ r ≡ isLetter b ⌝ }
-{
-    either(b == b'S', either(b == b'C', either(b == b'U', b == b'R')))
-}
-
 fn security_holds(field: &[u8]) -> bool
     requires { ⌜ length (now field) ≡ 3 ⌝ }
     ensures { λ r. ⌜ r ≡ both (isLetter (getD (now (field .entry)) 0 0)) (has (now (field .entry)) 1 (ascii "  ")) ⌝ }
@@ -94,13 +89,6 @@ fn edition_holds(field: &[u8]) -> bool
     ensures { λ r. ⌜ r ≡ both (digitsAt (now (field .entry)) 0 2) (leb 1 (decimalAt (now (field .entry)) 0 2)) ⌝ }
 {
     both(are_digits(field, 0, 2), 1 <= decimal(field, 0, 2))
-}
-
-// Whether a byte is a version.
-pub fn is_version(b: u8) -> bool
-    ensures { λ r. ⌜ r ≡ isVersion b ⌝ }
-{
-    both(b'A' <= b, b <= b'Z')
 }
 
 // One of the two vertical datums.

@@ -36,6 +36,3 @@ pub const LEVEL0: [u8; 4] = *b"0300";
 pub const LEVEL1: [u8; 4] = *b"0030";
 
 pub const LEVEL2: [u8; 4] = *b"0010";
-
-// The date of the product specification.
-pub const SPECIFIED: [u8; 4] = *b"0005";

@@ -9,3 +9,4 @@ pub mod NumberLaws
 pub mod SumLaws
 pub mod DigitLaws
 pub mod TextLaws
+pub mod PartLaws

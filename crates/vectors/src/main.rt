@@ -1,8 +1,8 @@
 // The examples that are run, not marked: lengths from the layout, and intake of the cell on standard input, changed in known ways.
-use headers::Accuracies;
-use headers::Accuracy;
-use headers::Datum;
-use headers::Description;
+use describing::Accuracies;
+use describing::Accuracy;
+use describing::Datum;
+use describing::Description;
 use layout::Laid;
 
 const INPUT: i32 = 0;
@@ -70,8 +70,8 @@ fn description(longitude: usize, partial: usize) -> Description {
 // Headers of this description over those of the cell, where its items are in range.
 fn put_headers(cell: &mut [u8], d: Description) {
     if CELL <= cell.len() {
-        if headers::items::bad_item(d) == 0 {
-            headers::write::put_headers(cell, d);
+        if describing::items::bad_item(d) == 0 {
+            describing::write::put_headers(cell, d);
         }
     }
 }

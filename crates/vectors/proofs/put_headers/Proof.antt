@@ -1,5 +1,5 @@
 -- `put_headers`: no bad item is every item in range.
-use Rattle.headers.proofs.RangedItems.{item-exactly}
+use Rattle.describing.proofs.RangedItems.{item-exactly}
 use Rattle.vectors.proofs.put_headers.Statement.{statement}
 use Rattle.vectors.proofs.put_headers.Tie as tie
 use borrow.Author.Needs.{needs}
