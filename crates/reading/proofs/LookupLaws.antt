@@ -5,6 +5,7 @@ use mathlib.Core.Path.{_≡_, refl, sym, ap, _∙_}
 use mathlib.Core.List.{List}
 use lib.ListN.{length, take}
 use borrow.Author.Tests.{le-leb}
+use Rattle.answers.specs.Told.{told, post}
 use Rattle.headers.specs.Judged.{judged, factsIn}
 use Rattle.headers.specs.declared.Facts.{Facts}
 use Rattle.headers.specs.declared.Judged.{Judged}
@@ -16,18 +17,20 @@ use Rattle.posts.specs.Words.{postOf}
 use Rattle.columns.specs.Column.{wordIn}
 use Rattle.reading.specs.Cell.{startOf, columnAt, Cell}
 use Rattle.reading.specs.Reach.{reachedIn, reachedUnder, reached}
-use Rattle.reading.specs.Lookup.{saidOfPost, readOf, lookedUp}
+use Rattle.reading.specs.Lookup.{postReads, readingOf, lookedUp}
+use Rattle.reading.specs.declared.reach.Reached.{Reached}
 use Rattle.reading.proofs.CellExactly.{column-whole}
 use Rattle.reading.proofs.ReachedExactly.{OnGrid, endIn, Row, good, given}
 
 -- D2: every post of an accepted cell is what the word says that stands there
 pub post-found : (s : List ℕ) → Cell s → (c p : ℕ) → c < factsIn s .grid .columns → p < factsIn s .grid .posts
-    → lookedUp s c p ≡ saidOfPost (postOf (wordIn (columnAt s (factsIn s .grid) c) p))
+    → lookedUp s c p ≡ told post (postReads (postOf (wordIn (columnAt s (factsIn s .grid) c) p)))
 unfolding lookedUp
 post-found s cell c p hc hp =
     let in-range = good-facts s (factsIn s) (follows-good s (cell .headers)) .grid in
     let on : OnGrid s c p = record { headers = cell .headers; column = hc; post = hp } in
-    ap readOf (given s c p _ (good on (column-whole s (factsIn s .grid) c in-range (cell .long) hc) (cell .columns c hc)))
+    ap (λ (x : Reached). told post (readingOf x))
+    (given s c p _ (good on (column-whole s (factsIn s .grid) c in-range (cell .long) hc) (cell .columns c hc)))
 
 module _ (s t : List ℕ) (c p : ℕ) where
   -- under the same facts, both hold the column whole and alike
@@ -49,4 +52,5 @@ module _ (s t : List ℕ) (c p : ℕ) where
       → columnAt s (factsIn s .grid) c ≡ columnAt t (factsIn s .grid) c → lookedUp s c p ≡ lookedUp t c p
   unfolding lookedUp reached
   same-post ls lt same hs ht e =
-      ap readOf (by-judged (judged s) refl hs ht e ∙ ap (λ (x : Judged). reachedUnder t x c p) (same-headers s t ls lt same))
+      ap (λ (x : Reached). told post (readingOf x))
+      (by-judged (judged s) refl hs ht e ∙ ap (λ (x : Judged). reachedUnder t x c p) (same-headers s t ls lt same))

@@ -1,7 +1,9 @@
 -- Lookup of one post (rule L1): its height or void, or why it was not reached.
 use Prim.Native.Nat.{ℕ}
 use mathlib.Core.List.{List}
-use Rattle.answers.specs.Told.{Told, height, void, numbered}
+use Rattle.answers.specs.Told.{Told, told, post}
+use Rattle.answers.specs.declared.Reading.{Reading}
+use Rattle.answers.specs.declared.Reading.the-variants as reading
 use Rattle.posts.specs.Words.{postOf}
 use Rattle.posts.specs.declared.Post.{Post}
 use Rattle.posts.specs.declared.Post.the-variants.{Height, Void}
@@ -9,13 +11,15 @@ use Rattle.reading.specs.Reach.{reached}
 use Rattle.reading.specs.declared.reach.Reached.{Reached}
 use Rattle.reading.specs.declared.reach.Reached.the-variants.{At, Refused}
 
-abbrev pub saidOfPost : Post → Told
-saidOfPost (Height z) = height z
-saidOfPost Void = void
+-- P2: what a post reads as
+abbrev pub postReads : Post → Reading
+postReads (Height z) = reading.Height z
+postReads Void = reading.Void
 
-abbrev pub readOf : Reached → Told
-readOf (At spot) = saidOfPost (postOf (spot .word))
-readOf (Refused r) = numbered r
+-- and what was reached, or not
+abbrev pub readingOf : Reached → Reading
+readingOf (At spot) = postReads (postOf (spot .word))
+readingOf (Refused r) = reading.Refused r
 
 unfoldable pub lookedUp : List ℕ → ℕ → ℕ → Told
-lookedUp s c p = readOf (reached s c p)
+lookedUp s c p = told post (readingOf (reached s c p))

@@ -5,17 +5,16 @@ use lib.IntN.{ℤ, pos, negsuc, subℕ}
 use lib.Dec.{leb, ltb}
 use Rattle.octets.specs.Choice.{pick}
 use Rattle.answers.specs.Told.{Told, heightAt, voidAt, numbered, refused}
-use Rattle.posts.specs.Words.{postOf}
-use Rattle.posts.specs.declared.Post.{Post}
-use Rattle.posts.specs.declared.Post.the-variants as post
+use Rattle.answers.specs.declared.Reading.{Reading}
+use Rattle.answers.specs.declared.Reading.the-variants as reading
 use Rattle.layout.specs.Levels.{degree}
 use Rattle.headers.specs.Judged.{judged}
 use Rattle.headers.specs.declared.Facts.{Facts}
 use Rattle.headers.specs.declared.Judged.{Judged}
 use Rattle.headers.specs.declared.Judged.the-variants as headers
 use Rattle.reading.specs.Reach.{reachedIn}
+use Rattle.reading.specs.Lookup.{readingOf}
 use Rattle.reading.specs.declared.reach.Reached.{Reached}
-use Rattle.reading.specs.declared.reach.Reached.the-variants as reached
 use Rattle.reading.specs.declared.position.Along.{Along}
 use Rattle.reading.specs.declared.position.Along.the-variants.{On, Off}
 use Rattle.reading.specs.declared.position.Corner.{Corner}
@@ -72,14 +71,14 @@ latitudeOf f p = subℕ (f .latitude * degree + p * f .grid .interval .latitude)
 abbrev pub longitudeOf : Facts → ℕ → ℤ
 longitudeOf f c = subℕ (f .longitude * degree + c * f .grid .interval .longitude) (180 * degree)
 
--- Q1: what is said of post p of column c, once it was reached
-abbrev pub saidAt : ℕ → ℕ → Post → Told
-saidAt c p (post.Height z) = heightAt c p z
-saidAt c p post.Void = voidAt c p
+-- Q1: what is said of post p of column c, by what it reads as
+abbrev pub saidAt : ℕ → ℕ → Reading → Told
+saidAt c p (reading.Height z) = heightAt c p z
+saidAt c p reading.Void = voidAt c p
+saidAt c p (reading.Refused r) = numbered r
 
 abbrev pub readAt : ℕ → ℕ → Reached → Told
-readAt c p (reached.At spot) = saidAt c p (postOf (spot .word))
-readAt c p (reached.Refused r) = numbered r
+readAt c p x = saidAt c p (readingOf x)
 
 -- N8, then N3 to N6 for the column of the nearest post
 abbrev pub locatedBy : List ℕ → Facts → Within → Told

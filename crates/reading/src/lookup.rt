@@ -1,7 +1,7 @@
 // Lookup of one post by its column and number.
 ghost use mathlib.Core.Path.{_≡_};
 ghost use Rattle.answers.specs.Told as told;
-ghost use Rattle.reading.specs.Lookup.{readOf, lookedUp};
+ghost use Rattle.reading.specs.Lookup.{readingOf, lookedUp};
 use crate::reach::Reached;
 use crate::reach::reach;
 use answers::Reading;
@@ -10,7 +10,7 @@ use posts::words::post_of;
 
 // What a reached post reads as.
 pub fn read(reached: Reached) -> Reading
-    ensures { λ r. ⌜ told.told told.post r ≡ readOf reached ⌝ }
+    ensures { λ r. ⌜ r ≡ readingOf reached ⌝ }
 {
     match reached {
         Reached::At(spot) => {

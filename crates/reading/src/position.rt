@@ -3,14 +3,13 @@ ghost use mathlib.Core.Path.{_≡_};
 ghost use Prim.Native.Nat.{_+_, _*_, _<_, _≤_};
 ghost use Rattle.answers.specs.Told as told;
 ghost use Rattle.reading.specs.Position as by;
-use crate::reach::Reached;
+use crate::lookup::read;
 use crate::reach::reach_in;
 use answers::Located;
+use answers::Reading;
 use answers::Refusal;
 use headers::Facts;
 use layout::DEGREE;
-use posts::Post;
-use posts::words::post_of;
 
 // Tenths of an arc-second in the full circle.
 const CIRCLE: usize = 12960000;
@@ -112,23 +111,18 @@ fn nearest(interval: usize, before: usize, past: usize) -> usize
     }
 }
 
-// What is answered of a post that was reached, or not.
-fn tell(column: usize, post: usize, reached: Reached) -> Located
-    ensures { λ r. ⌜ told.told told.position r ≡ by.readAt column post reached ⌝ }
+// What is answered of a post, by what it reads as.
+fn tell(column: usize, post: usize, reading: Reading) -> Located
+    ensures { λ r. ⌜ told.told told.position r ≡ by.saidAt column post reading ⌝ }
 {
-    match reached {
-        Reached::At(spot) => {
-            let read = post_of(spot.word);
-            match read {
-                Post::Height(metres) => Located::Height {
-                    column,
-                    post,
-                    metres,
-                },
-                Post::Void => Located::Void { column, post },
-            }
-        }
-        Reached::Refused(refusal) => Located::Refused(refusal),
+    match reading {
+        Reading::Height(metres) => Located::Height {
+            column,
+            post,
+            metres,
+        },
+        Reading::Void => Located::Void { column, post },
+        Reading::Refused(refusal) => Located::Refused(refusal),
     }
 }
 
@@ -145,7 +139,7 @@ fn locate_in(cell: &[u8], facts: Facts, latitude: i64, longitude: i64) -> Locate
             let column = nearest(interval.longitude, corner.column, corner.east);
             let post = nearest(interval.latitude, corner.post, corner.north);
             let reached = reach_in(cell, facts, column, post);
-            tell(column, post, reached)
+            tell(column, post, read(reached))
         }
         Within::Off => Located::Refused(Refusal::OffGrid),
     }

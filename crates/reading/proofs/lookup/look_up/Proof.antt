@@ -12,7 +12,7 @@ read-requires c κs = search needs
 
 returns : tie.Need-returns
 unfolding lookedUp
-returns c = rw (← c .before .reach .ensures) (c .read .ensures)
+returns c = rw (c .read .ensures, c .before .reach .ensures)
 
 pub look-up-spec : {M : Type 1} → statement M
 look-up-spec = tie.close (tie.spec reach-requires read-requires returns)

@@ -1,8 +1,6 @@
 -- `read`: by whether the post was reached, and what its word says.
-use Rattle.posts.specs.Words.{postOf}
 use Rattle.reading.proofs.lookup.read.Statement.{statement}
 use Rattle.reading.proofs.lookup.read.Tie as tie
-use Rattle.reading.specs.Lookup.{saidOfPost, readOf}
 use borrow.Author.Needs.{needs}
 use mir.Facts.{toZ-ofZ}
 use mir.Syntax.{w16}
@@ -33,7 +31,7 @@ returns-2 c =
     rw (o .before .before .reached .given .1, ← o .post-of .ensures, c .enum-told .given .1)
 
 returns-3 : tie.Need-returns-3
-returns-3 c = search needs
+returns-3 c = rw (c .before .reached2 .given .1)
 
 pub read-spec : {M : Type 1} → statement M
 read-spec =

@@ -41,6 +41,9 @@ nearest-requires-2 c κs = (small (c .before) .post, small (c .before) .north)
 reach-in-requires : tie.Need-reach-in-requires
 reach-in-requires c κs = search needs
 
+read-requires : tie.Need-read-requires
+read-requires c κs = search needs
+
 tell-requires : tie.Need-tell-requires
 tell-requires c κs = search needs
 
@@ -49,9 +52,10 @@ enum-told c = search needs
 
 returns : tie.Need-returns
 returns c =
-    let two = c .before .before in
+    let two = c .before .before .before in
     let one = two .before in
-    rw (inside (one .before), ← one .nearest .ensures, ← two .nearest2 .ensures, ← c .before .reach-in .ensures) (c .tell .ensures)
+    rw (inside (one .before), ← one .nearest .ensures, ← two .nearest2 .ensures, ← c .before .before .reach-in .ensures, ← c .before .read .ensures)
+    (c .tell .ensures)
 
 returns-2 : tie.Need-returns-2
 returns-2 c = rw (sym (found (c .before .before)) ∙ c .enum-told .given .1)
@@ -65,6 +69,7 @@ locate-in-spec =
     nearest-requires
     nearest-requires-2
     reach-in-requires
+    read-requires
     tell-requires
     enum-told
     returns

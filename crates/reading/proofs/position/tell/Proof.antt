@@ -1,35 +1,25 @@
--- `tell`: by whether the post was reached, and what its word says.
+-- `tell`: by what the post reads as.
 use Rattle.reading.proofs.position.tell.Statement.{statement}
 use Rattle.reading.proofs.position.tell.Tie as tie
-use Rattle.reading.specs.Position.{saidAt, readAt}
 use borrow.Author.Needs.{needs}
 use mir.Facts.{toZ-ofZ}
 use mir.Syntax.{w16}
 
-enum-known-reached : tie.Need-enum-known-reached
-enum-known-reached c = search needs
-
-post-of-requires : tie.Need-post-of-requires
-post-of-requires c κs = search needs
-
-enum-known-read : tie.Need-enum-known-read
-enum-known-read c = search needs
+enum-known-reading : tie.Need-enum-known-reading
+enum-known-reading c = search needs
 
 enum-told : tie.Need-enum-told
 enum-told c = search needs
 
-enum-known-reached-2 : tie.Need-enum-known-reached-2
-enum-known-reached-2 c = search needs
+enum-known-reading-2 : tie.Need-enum-known-reading-2
+enum-known-reading-2 c = search needs
 
 returns : tie.Need-returns
 returns c =
-    let o = c .before .before .before in
-    rw (o .before .before .reached .given .1, ← o .post-of .ensures, c .before .read .given .1, toZ-ofZ {w = w16} {z = c .before .read .given .0 .0} (record { sfits = c .known-told2 .given .0 .1 }))
+    rw (c .before .reading .given .1, toZ-ofZ {w = w16} {z = c .before .reading .given .0 .0} (record { sfits = c .known-told .given .0 .1 }))
 
 returns-2 : tie.Need-returns-2
-returns-2 c =
-    let o = c .before .before in
-    rw (o .before .before .reached .given .1, ← o .post-of .ensures, c .enum-told .given .1)
+returns-2 c = rw (c .enum-told .given .1)
 
 returns-3 : tie.Need-returns-3
 returns-3 c = search needs
@@ -38,11 +28,9 @@ pub tell-spec : {M : Type 1} → statement M
 tell-spec =
     tie.close
     (tie.spec
-    enum-known-reached
-    post-of-requires
-    enum-known-read
+    enum-known-reading
     enum-told
-    enum-known-reached-2
+    enum-known-reading-2
     returns
     returns-2
     returns-3)
