@@ -10,7 +10,7 @@ use Rattle.octets.specs.Sums.{sumOf}
 use Rattle.columns.specs.Column.{preamble, wordsOf, sealed, columnOf}
 use Rattle.posts.specs.Heights.{wordOf}
 use Rattle.posts.specs.Words.{heightOf, postOf, inRange, wordAllowed}
-use Rattle.reading.specs.Position.{southWest}
+use Rattle.locating.specs.Position.{southWest}
 use Rattle.demands.specs.Marked.{made, givens, answers}
 
 pub marked : map made givens ≡ answers

@@ -14,9 +14,9 @@ use Rattle.posts.specs.Words.{wordAllowed, postOf}
 use Rattle.posts.specs.declared.Post.{Post}
 use Rattle.posts.specs.declared.Post.the-variants.{Height, Void}
 use Rattle.layout.specs.Levels.{degree}
-use Rattle.reading.specs.Position.{southWest, nearestColumn, nearestPost}
-use Rattle.reading.specs.declared.position.Within.{Within}
-use Rattle.reading.specs.declared.position.Within.the-variants as within
+use Rattle.locating.specs.Position.{southWest, nearestColumn, nearestPost}
+use Rattle.locating.specs.declared.position.Within.{Within}
+use Rattle.locating.specs.declared.position.Within.the-variants as within
 
 -- a whole-degree latitude, north or south
 abbrev pub north : ℕ → ℤ

@@ -3,7 +3,7 @@
 ghost use Prim.Native.Nat.{_≤_};
 ghost use lib.ListN.{length};
 use answers::Verdict;
-use reading::steps::Steps;
+use stepping::steps::Steps;
 
 const INPUT: i32 = 0;
 

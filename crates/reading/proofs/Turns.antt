@@ -1,6 +1,6 @@
 -- A turn of intake over the columns: the column that is due, and the end.
 use Prim.Native.Nat.{ℕ, _+_, _-_, _*_, _≤_, _<_}
-use native.Mathlib.Nat.{add-mul, add-sub-cancel-left}
+use native.Mathlib.Nat.{add-mul, add-sub-cancel-left, mul-le-mul, le-of-lt}
 use native.Mathlib.Omega.{arith}
 use mathlib.Core.Path.{_≡_, refl, sym, ap, _∙_}
 use mathlib.Core.Bool.{Bool}
@@ -19,6 +19,10 @@ use Rattle.reading.specs.Intake.{orRest, judgeNext, ended, columnsFrom}
 -- where the next column starts
 pub next-start : (g : Grid) (k : ℕ) → startOf g (k + 1) ≡ startOf g k + g .bytes .column
 next-start g k = omega (arith, add-mul k 1 (g .bytes .column))
+
+-- the start of a column is a small number
+pub start-small : (k column : ℕ) → k < 3601 → column ≤ 7214 → k * column ≤ 3601 * 7214
+start-small k column h u = mul-le-mul (le-of-lt h) u
 
 -- a column lent as the part from its start to its end
 pub part-is : (s : List ℕ) (g : Grid) (k base : ℕ) → base ≡ startOf g k

@@ -1,6 +1,4 @@
-// Reading a cell: intake of the whole, intake step by step, and lookup of one post, by its number or by a position.
+// Reading a cell from its bytes: intake of the whole, and lookup of one post by its number.
 pub mod intake;
 pub mod lookup;
-pub mod position;
 pub mod reach;
-pub mod steps;

@@ -1,8 +1,7 @@
 -- `reach_in`: off the grid, its column cut, or as its column is judged.
 use Prim.Native.Nat.{_+_, _*_, _≤_}
-use Rattle.reading.proofs.Pieces.{start-small}
 use Rattle.reading.proofs.PostReached.{off-columns, off-posts, column-cut, column-judged}
-use Rattle.reading.proofs.Turns.{part-is}
+use Rattle.reading.proofs.Turns.{start-small, part-is}
 use Rattle.reading.proofs.reach.reach_in.Statement.{statement}
 use Rattle.reading.proofs.reach.reach_in.Tie as tie
 use borrow.Author.Needs.{needs}

@@ -1,0 +1,50 @@
+-- `locate`: the headers, then the position under them.
+use Rattle.headers.proofs.FirstFour.{GoodFacts, good-facts}
+use Rattle.headers.specs.Judged.{judged}
+use Rattle.headers.specs.declared.Judged.the-variants.{Good}
+use Rattle.locating.proofs.position.locate.Statement.{statement}
+use Rattle.locating.proofs.position.locate.Tie as tie
+use Rattle.locating.specs.Position.{locatedUnder, located}
+use borrow.Author.Needs.{needs}
+use mathlib.Core.Path.{_≡_, sym, _∙_}
+use mir.Facts.{toZ-ofZ}
+use native.Mathlib.Omega.{arith}
+
+good : (c : tie.After-known-told) → judged (c .before .before .before .before .before .args .cell .now) ≡ Good (c .before .judged .given .0 .0)
+good c = sym (c .before .before .before .judge .ensures) ∙ c .before .judged .given .1
+
+judge-requires : tie.Need-judge-requires
+judge-requires c κs = search needs
+
+enum-known-judged : tie.Need-enum-known-judged
+enum-known-judged c = search needs
+
+locate-in-requires : tie.Need-locate-in-requires
+locate-in-requires c κs =
+    let f = good-facts (c .before .before .before .before .before .args .cell .now) _ (good c) in
+    let g = f .grid in
+    ((omega (arith, g .latitude-low), (omega (arith, g .longitude-low), (f .latitude, f .longitude))), (g .columns-high, (g .posts-high, g .column)))
+
+enum-known-judged-2 : tie.Need-enum-known-judged-2
+enum-known-judged-2 c = search needs
+
+returns : tie.Need-returns
+unfolding located
+returns c =
+    let start = c .before .before .before .before .before .before in
+    rw (good (c .before)) (rw (toZ-ofZ (start .fits .latitude), toZ-ofZ (start .fits .longitude)) at (c .locate-in .ensures))
+
+returns-2 : tie.Need-returns-2
+unfolding located
+returns-2 c = rw (sym (c .before .before .before .judge .ensures) ∙ c .before .judged2 .given .1)
+
+pub locate-spec : {M : Type 1} → statement M
+locate-spec =
+    tie.close
+    (tie.spec
+    judge-requires
+    enum-known-judged
+    locate-in-requires
+    enum-known-judged-2
+    returns
+    returns-2)

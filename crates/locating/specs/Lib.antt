@@ -1,0 +1,2 @@
+-- What lookup of a position answers of any bytes.
+pub mod Position

@@ -1,0 +1,76 @@
+-- The state after a step: what a good header piece makes due, an answer that is kept, and the bound of the next column.
+use Prim.Native.Nat.{ℕ, _+_, _≤_, _<_}
+use native.Mathlib.Omega.{arith}
+use mathlib.Core.Path.{_≡_, refl, sym, ap, _∙_}
+use mathlib.Core.Bool.{Bool, true, false}
+use mathlib.Core.List.{List}
+use lib.Dec.{eqb}
+use lib.ListN.{length}
+use Rattle.octets.specs.Choice.{pick}
+use Rattle.octets.proofs.ChoiceLaws.{by-order, by-test}
+use Rattle.answers.specs.Told.{Told, told, intake, refused, more, accepted, numbered}
+use Rattle.answers.specs.declared.Refusal.{Refusal}
+use Rattle.answers.specs.declared.Verdict.{Verdict}
+use Rattle.answers.specs.declared.Verdict.the-variants as verdict
+use Rattle.layout.specs.Grid.{laid}
+use Rattle.layout.specs.declared.Grid.{Grid}
+use Rattle.layout.specs.declared.Laid.{Laid}
+use Rattle.layout.specs.declared.Laid.the-variants.{Out, NoLevel, NoZone}
+use Rattle.layout.proofs.Ranges.{ranged, laid-out}
+use Rattle.headers.specs.Due.{edgeOf}
+use Rattle.headers.specs.Judged.{judged, voidsAllowed}
+use Rattle.headers.specs.declared.Facts.{Facts}
+use Rattle.headers.specs.declared.Judged.the-variants as headers
+use Rattle.reading.specs.Intake.{ended}
+use Rattle.stepping.specs.Steps.{saidOf, saidOfHeaders, saidOfLaid, saidOfColumn, dueAfter, after, Step}
+use Rattle.stepping.specs.declared.steps.Due.{Due}
+use Rattle.stepping.specs.declared.steps.Phase.{Phase}
+use Rattle.stepping.specs.declared.steps.Phase.the-variants.{Headers, Columns, Over}
+use Rattle.stepping.proofs.Pieces.{piece-past}
+
+-- a good header piece
+pub headers-good : (piece : List ℕ) (f : Facts) (edge : ℕ) (voids : Bool) → judged piece ≡ headers.Good f → edge ≡ edgeOf (f .latitude) → voids ≡ voidsAllowed f
+    → Step Headers piece verdict.More (Columns (record { level = f .grid .level; edge = edge; voids = voids; next = 0 }))
+headers-good piece f edge voids e el ev = record {
+  said = sym (ap saidOfHeaders e);
+  state = rw (el, ev) (sym (ap dueAfter e));
+}
+
+-- an answer that is kept
+pub kept : (phase : Phase) (piece : List ℕ) (v a : Verdict) (later : Phase) → after phase piece v ≡ Over v → told intake v ≡ saidOf phase piece
+    → a ≡ v → later ≡ Over v → Step phase piece a later
+kept phase piece v a later o e p q = record { said = ap (told intake) p ∙ e; state = q ∙ sym (ap (after phase piece) p ∙ o) }
+
+-- once over
+pub over-kept : (v : Verdict) (piece : List ℕ) → after (Over v) piece v ≡ Over v
+over-kept verdict.More piece = refl
+over-kept (verdict.Accepted level columns posts) piece = refl
+over-kept (verdict.Refused r) piece = refl
+
+ended-not-more : (long : ℕ) (g : Grid) → ended long g ≡ more → ⊥
+unfolding ended
+ended-not-more long g e =
+    by-test (eqb long (g .bytes .cell))
+    (λ t. let z : accepted (g .level) (g .columns) (g .posts) ≡ more = rw t at e in let n : _≡_ {A = ℕ} 0 1 = cc in omega arith)
+    (λ t. let z : refused 7 (g .bytes .cell) ≡ more = rw t at e in let n : _≡_ {A = ℕ} 0 1 = cc in omega arith)
+
+-- "more" is said of a column that is due, and so the next number is small
+below-columns : (g : Grid) (voids : Bool) (k : ℕ) (piece : List ℕ) → saidOfColumn g voids k piece ≡ more → k < g .columns
+below-columns g voids k piece e =
+    by-order (g .columns) k
+    (λ h. absurd (ended-not-more (g .bytes .cell + length piece) g (sym (piece-past g voids k piece h) ∙ e)))
+    (λ h. h)
+
+by-laid : (level edge : ℕ) (voids : Bool) (k : ℕ) (piece : List ℕ) (x : Laid) → laid level edge ≡ x → saidOfLaid x voids k piece ≡ more → k < 3601
+by-laid level edge voids k piece (Out g) l e =
+    let out = laid-out level edge g l in
+    let in-range = ranged level edge (out .0) (out .1 .0) in
+    let same = out .1 .1 in
+    let below : k < g .columns = below-columns g voids k piece e in
+    let high : g .columns ≤ 3601 = rw same (in-range .columns-high) in
+    omega arith
+by-laid level edge voids k piece NoLevel l e = let n : _≡_ {A = ℕ} 0 1 = cc in absurd (omega arith)
+by-laid level edge voids k piece NoZone l e = let n : _≡_ {A = ℕ} 0 1 = cc in absurd (omega arith)
+
+pub next-small : (d : Due) (piece : List ℕ) → saidOf (Columns d) piece ≡ more → d .next < 3601
+next-small d piece e = by-laid (d .level) (d .edge) (d .voids) (d .next) piece (laid (d .level) (d .edge)) refl e

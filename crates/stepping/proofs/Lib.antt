@@ -1,0 +1,5 @@
+-- The laws of stepping.
+pub mod Pieces
+pub mod Kept
+pub mod StepByStep
+pub mod StepsWhole

@@ -1,0 +1,78 @@
+-- `column_answer`: by whether a column is due, whether the piece is long enough, and how it is judged.
+use Prim.Native.Nat.{_+_, _*_, _≤_}
+use Rattle.reading.proofs.Turns.{start-small}
+use Rattle.stepping.proofs.Pieces.{piece-past, piece-short, piece-judged}
+use Rattle.stepping.proofs.steps.column_answer.Statement.{statement}
+use Rattle.stepping.proofs.steps.column_answer.Tie as tie
+use borrow.Author.Needs.{needs}
+use lib.Seq.{length-take-le}
+use mathlib.Core.Path.{sym, _∙_}
+use native.Mathlib.Omega.{arith}
+
+add-end : tie.Need-add-end
+add-end c = search needs
+
+end-requires : tie.Need-end-requires
+end-requires c κs = search needs
+
+returns : tie.Need-returns
+returns c =
+    let a = c .before .before .before .before .before .before .args in
+    c .end .ensures ∙ sym (piece-past (a .grid) (a .voids) (a .next) (a .piece .now) (c .before .before .if1 .taken))
+
+mul-base : tie.Need-mul-base
+mul-base c = let a = c .before .before .before .before .args in omega (arith, start-small (a .next) (a .grid .bytes .column) (omega arith) (omega arith))
+
+add-base : tie.Need-add-base
+add-base c = let a = c .before .before .before .before .args in omega (arith, start-small (a .next) (a .grid .bytes .column) (omega arith) (omega arith))
+
+returns-2 : tie.Need-returns-2
+returns-2 c =
+    let a = c .before .before .before .before .before .args in
+    sym (piece-short (a .grid) (a .voids) (a .next) (a .piece .now) (c .before .if1 .left) (c .if2 .taken))
+
+slice-aggregate-judge : tie.Need-slice-aggregate-judge
+slice-aggregate-judge c = sym (length-take-le _ _ (c .before .if2 .left))
+
+judge-requires : tie.Need-judge-requires
+judge-requires c κs =
+    let a = c .before .before .before .before .before .before .args in
+    let small = start-small (a .next) (a .grid .bytes .column) (omega arith) (omega arith) in
+    (length-take-le _ _ (c .before .if2 .left) ∙ omega arith, (omega arith, omega arith))
+
+enum-told : tie.Need-enum-told
+enum-told c = search needs
+
+enum-known-judged : tie.Need-enum-known-judged
+enum-known-judged c = search needs
+
+returns-3 : tie.Need-returns-3
+returns-3 c =
+    let j = c .before .before in
+    let d = j .before .before in
+    let a = d .before .before .before .before .before .args in
+    sym (piece-judged (a .grid) (a .voids) (a .next) (a .piece .now) (d .before .if1 .left) (d .if2 .left) _ (sym (j .judge .ensures) ∙ c .enum-told .given .1))
+
+returns-4 : tie.Need-returns-4
+returns-4 c =
+    let j = c .before .before .before in
+    let d = j .before .before in
+    let a = d .before .before .before .before .before .args in
+    sym (piece-judged (a .grid) (a .voids) (a .next) (a .piece .now) (d .before .if1 .left) (d .if2 .left) _ (sym (j .judge .ensures) ∙ c .before .judged .given .1))
+
+pub column-answer-spec : {M : Type 1} → statement M
+column-answer-spec =
+    tie.close
+    (tie.spec
+    add-end
+    end-requires
+    returns
+    mul-base
+    add-base
+    returns-2
+    slice-aggregate-judge
+    judge-requires
+    enum-told
+    enum-known-judged
+    returns-3
+    returns-4)

@@ -1,0 +1,48 @@
+-- `first_step`: by how the headers are judged.
+use Rattle.stepping.proofs.Kept.{headers-good, kept}
+use Rattle.stepping.proofs.steps.first_step.Statement.{statement}
+use Rattle.stepping.proofs.steps.first_step.Tie as tie
+use Rattle.stepping.specs.Steps.{saidOfHeaders}
+use borrow.Author.Needs.{needs}
+use mathlib.Core.Path.{_≡_, refl, sym, ap, _∙_}
+
+judge-requires : tie.Need-judge-requires
+judge-requires c κs = search needs
+
+enum-known-judged : tie.Need-enum-known-judged
+enum-known-judged c = search needs
+
+near-edge-requires : tie.Need-near-edge-requires
+near-edge-requires c κs = search needs
+
+may-hold-voids-requires : tie.Need-may-hold-voids-requires
+may-hold-voids-requires c κs = search needs
+
+enum-known-judged-2 : tie.Need-enum-known-judged-2
+enum-known-judged-2 c = search needs
+
+over-requires : tie.Need-over-requires
+over-requires c κs = search needs
+
+returns : tie.Need-returns
+returns c =
+    let g = c .before .before .before .before in
+    headers-good _ _ _ _ (sym (g .before .before .judge .ensures) ∙ g .judged .given .1) (c .before .near-edge .ensures) (c .may-hold-voids .ensures)
+
+returns-2 : tie.Need-returns-2
+returns-2 c =
+    let g = c .before .before in
+    kept _ _ _ _ _ refl (sym (ap saidOfHeaders (sym (g .before .before .judge .ensures) ∙ g .judged2 .given .1))) (c .over .ensures .0) (c .over .ensures .1)
+
+pub first-step-spec : {M : Type 1} → statement M
+first-step-spec =
+    tie.close
+    (tie.spec
+    judge-requires
+    enum-known-judged
+    near-edge-requires
+    may-hold-voids-requires
+    enum-known-judged-2
+    over-requires
+    returns
+    returns-2)
