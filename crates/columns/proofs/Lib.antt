@@ -3,3 +3,7 @@ pub mod WordSearch
 pub mod Exactly
 pub mod Damage
 pub mod WrittenColumn
+pub mod ColumnBytes
+pub mod PostsRead
+pub mod Afresh
+pub mod WrittenGood

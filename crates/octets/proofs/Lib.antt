@@ -6,6 +6,7 @@ pub mod ScanLaws
 pub mod PasteLaws
 pub mod PlaceLaws
 pub mod NumberLaws
+pub mod FrontLaws
 pub mod SumLaws
 pub mod DigitLaws
 pub mod TextLaws
