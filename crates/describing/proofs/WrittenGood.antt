@@ -40,8 +40,9 @@ module _ (d : Description) (rest : List ℕ) (e : inRange d ≡ true) where
   pub written-due : dueIn (headersFor d ++ rest) ≡ dueFor d
   written-due = same-due (headersFor d ++ rest) (headersFor d) long alone front ∙ due-back d e
 
+  pub written-items : itemsIn (headersFor d ++ rest) ≡ d
+  written-items = same-items (headersFor d ++ rest) (headersFor d) long alone front ∙ written-read d e
+
   pub written-described : described (headersFor d ++ rest) ≡ As d
   unfolding described
-  written-described =
-      ap (describedBy (headersFor d ++ rest)) written-good
-      ∙ ap As (same-items (headersFor d ++ rest) (headersFor d) long alone front ∙ written-read d e)
+  written-described = ap (describedBy (headersFor d ++ rest)) written-good ∙ ap As written-items

@@ -3,3 +3,4 @@ pub mod Edges
 pub mod Factors
 pub mod Ranges
 pub mod Table
+pub mod ZoneOne

@@ -30,8 +30,8 @@ height-back voids z a = form-of-pair (pair-of-height voids z a)
 pub word-allowed : (voids : Bool) (z : ℤ) → heightAllowed voids z ≡ true → wordAllowed voids (wordOf z) ≡ true
 word-allowed voids z a = word-in-pair (pair-of-height voids z a)
 
--- a pair without voids is one with them
-more : {w : ℕ} {z : ℤ} → Pair false w z → Pair true w z
+-- a pair is one where voids are allowed too
+more : {voids : Bool} {w : ℕ} {z : ℤ} → Pair voids w z → Pair true w z
 more (void v) = void refl
 more (up n h) = up n h
 more (down w n e h) = down w n e h
@@ -39,3 +39,7 @@ more (down w n e h) = down w n e h
 -- a word allowed where voids are not is allowed where they are
 pub voids-more : (w : ℕ) → wordAllowed false w ≡ true → wordAllowed true w ≡ true
 voids-more w a = word-in-pair (more (pair-of-word false w a))
+
+-- so is a height that is allowed anywhere
+pub heights-more : (voids : Bool) (z : ℤ) → heightAllowed voids z ≡ true → heightAllowed true z ≡ true
+heights-more voids z a = height-in-pair (more (pair-of-height voids z a))

@@ -1,9 +1,12 @@
-// The examples that are run, not marked: lengths from the layout, and intake of the cell on standard input, changed in known ways.
+// The examples that are run, not marked: whole cells streamed from the column writer, and intake of the cell on standard input, changed in known ways.
 use describing::Accuracies;
 use describing::Accuracy;
 use describing::Datum;
 use describing::Description;
+use layout::HEADER_BYTES;
 use layout::Laid;
+
+mod stream;
 
 const INPUT: i32 = 0;
 
@@ -14,14 +17,16 @@ const CELL: usize = 34162;
 
 const ROOM: usize = 34163;
 
-// The length of a zone I cell of a level.
-fn print_length(level: usize) {
+// The length of a zone I cell of a level, and what its pieces answer.
+fn print_streamed(level: usize) {
     let laid = layout::lay(level, 0);
     match laid {
         Laid::Out(grid) => {
             let bytes = grid.bytes;
             io::print_decimal(OUTPUT, bytes.cell as u64);
             io::write_all(OUTPUT, b" bytes\n");
+            let answer = stream::stream(level, grid.columns, grid.posts);
+            printing::verdict(OUTPUT, answer);
         }
         Laid::NoLevel => {}
         Laid::NoZone => {}
@@ -45,9 +50,9 @@ fn put_void(cell: &mut [u8]) {
 }
 
 // An origin of 0 N and this longitude, counted from 180 W, in a complete or a partial cell.
-fn description(longitude: usize, partial: usize) -> Description {
+fn description(level: usize, longitude: usize, partial: usize) -> Description {
     Description {
-        level: 0,
+        level,
         latitude: 90,
         longitude,
         security: b'U',
@@ -69,7 +74,7 @@ fn description(longitude: usize, partial: usize) -> Description {
 
 // Headers of this description over those of the cell, where its items are in range.
 fn put_headers(cell: &mut [u8], d: Description) {
-    if CELL <= cell.len() {
+    if HEADER_BYTES <= cell.len() {
         if describing::items::bad_item(d) == 0 {
             describing::write::put_headers(cell, d);
         }
@@ -77,9 +82,9 @@ fn put_headers(cell: &mut [u8], d: Description) {
 }
 
 fn main() {
-    print_length(0);
-    print_length(1);
-    print_length(2);
+    print_streamed(0);
+    print_streamed(1);
+    print_streamed(2);
     let mut cell = [0u8; ROOM];
     io::read_full(INPUT, &mut cell);
     judge(&cell, 3427);
@@ -87,12 +92,12 @@ fn main() {
     judge(&cell, CELL - 1);
     judge(&cell, CELL);
     judge(&cell, ROOM);
-    put_headers(&mut cell, description(0, 0));
+    put_headers(&mut cell, description(0, 0, 0));
     judge(&cell, CELL);
-    put_headers(&mut cell, description(359, 0));
+    put_headers(&mut cell, description(0, 359, 0));
     judge(&cell, CELL);
     put_void(&mut cell);
     judge(&cell, CELL);
-    put_headers(&mut cell, description(359, 7));
+    put_headers(&mut cell, description(0, 359, 7));
     judge(&cell, CELL);
 }

@@ -1,0 +1,26 @@
+-- The grid that a description in range makes due: within what a grid can be, and as many bytes as its columns have.
+use Prim.Native.Nat.{ℕ, _+_, _*_}
+use mathlib.Core.Path.{_≡_, refl, ap, _∙_}
+use mathlib.Core.Bool.{true}
+use Rattle.layout.specs.declared.Grid.{Grid}
+use Rattle.layout.proofs.Ranges.{Ranged, ranged}
+use Rattle.headers.specs.Due.{edgeOf}
+use Rattle.describing.specs.Items.{inRange}
+use Rattle.describing.specs.Written.{dueFor}
+use Rattle.describing.specs.declared.Description.{Description}
+use Rattle.headers.proofs.NearEdges.{edge-below}
+use Rattle.describing.proofs.RangedItems.{ranged-items}
+use Rattle.writing.specs.Cell.{factsFor}
+
+pub facts-grid : (d : Description) → factsFor d .grid ≡ dueFor d .grid
+unfolding factsFor
+facts-grid d = refl
+
+pub due-ranged : (d : Description) → inRange d ≡ true → (g : Grid) → g ≡ factsFor d .grid → Ranged g
+unfolding factsFor dueFor
+due-ranged d e g due =
+    let i = ranged-items d e in
+    rw due (ranged (d .level) (edgeOf (d .latitude)) (i .level) (edge-below (d .latitude) (i .latitude)))
+
+pub columns-bytes : (g : Grid) → Ranged g → g .bytes .cell ≡ 3428 + g .columns * (12 + 2 * g .posts)
+columns-bytes g r = r .cell ∙ ap (λ (m : ℕ). 3428 + g .columns * m) (r .column)

@@ -1,0 +1,73 @@
+-- `put_cell`: the headers at the front, and the columns behind them.
+use Rattle.describing.proofs.WrittenLength.{length-headers}
+use Rattle.describing.specs.Written.{headersFor}
+use Rattle.answers.specs.declared.Outcome.the-variants.{Done}
+use Rattle.layout.specs.declared.Grid.{Grid}
+use Rattle.layout.proofs.Ranges.{Ranged}
+use Rattle.octets.proofs.PasteLaws.{length-part}
+use Rattle.writing.proofs.ColumnParts.{length-columns}
+use Rattle.writing.proofs.GridDue.{due-ranged, columns-bytes}
+use Rattle.writing.proofs.OutputPut.{behind-put}
+use Rattle.writing.proofs.cell.put_cell.Statement.{statement}
+use Rattle.writing.proofs.cell.put_cell.Tie as tie
+use Rattle.writing.specs.Cell.{cellOf}
+use Rattle.writing.specs.Given.{outputAfter}
+use Rattle.writing.specs.Grid.{columnsWritten, afresh}
+use borrow.Author.Needs.{needs}
+use mathlib.Core.Path.{_≡_, refl, sym, ap, _∙_}
+use native.Mathlib.Omega.{arith}
+
+within : (s : tie.Start) → Ranged (s .args .grid)
+within s = due-ranged (s .args .d) (s .pre .0) (s .args .grid) (s .pre .1 .0)
+
+put-headers-requires : tie.Need-put-headers-requires
+put-headers-requires c κs = let s = c .before .before .before in (omega (arith, within s .cell, s .pre .1 .1 .1), s .pre .0)
+
+sub-put-columns : tie.Need-sub-put-columns
+sub-put-columns c = let s = c .before .before .before .before .before .before in omega (arith, within s .cell)
+
+part-put-columns-start : tie.Need-part-put-columns-start
+part-put-columns-start c = let s = c .before .before .before .before .before .before in omega (arith, within s .cell)
+
+part-put-columns-end : tie.Need-part-put-columns-end
+part-put-columns-end c = search needs
+
+put-columns-requires : tie.Need-put-columns-requires
+put-columns-requires c κs =
+    let h = c .before .before .before in
+    let s = h .before .before .before .before in
+    let r = within s in
+    let kept = h .put-headers .kept .0 in
+    let part = length-part (h .put-headers .last .0) 3428 (s .args .grid .bytes .cell) (omega (arith, r .cell)) (omega (arith, kept, s .pre .1 .1 .1)) in
+    (part ∙ omega (arith, columns-bytes (s .args .grid) r), (s .pre .1 .1 .0, (r .columns-high, r .posts-high)))
+
+same-length : tie.Need-same-length
+same-length c = search needs
+
+returns : tie.Need-returns
+unfolding cellOf
+returns c =
+    let k = c .before .before in
+    let h = k .before .before .before .before in
+    let s = h .before .before .before .before in
+    let g = s .args .grid in
+    let zs = s .args .heights .now in
+    let r = within s in
+    let long = length-columns (g .posts) (g .columns) zs (s .pre .1 .1 .0) (g .columns) (omega arith) in
+    let out = s .args .out .now in
+    behind-put out (headersFor (s .args .d)) (h .put-headers .last .0) (columnsWritten (g .posts) zs (g .columns)) (k .put-columns .last .0) 3428 (g .bytes .cell)
+    (length-headers (s .args .d)) (omega (arith, r .cell, s .pre .1 .1 .1)) (omega (arith, long, columns-bytes g r))
+    (h .put-headers .ensures) (k .put-columns .ensures)
+    ∙ ap (λ (x : Grid). outputAfter Done (afresh (headersFor (s .args .d)) x zs) out) (s .pre .1 .0)
+
+pub put-cell-spec : {M : Type 1} → statement M
+put-cell-spec =
+    tie.close
+    (tie.spec
+    put-headers-requires
+    sub-put-columns
+    part-put-columns-start
+    part-put-columns-end
+    put-columns-requires
+    same-length
+    returns)

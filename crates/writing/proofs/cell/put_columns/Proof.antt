@@ -1,0 +1,172 @@
+-- `put_columns`: what stands so far is a paste of the first columns.
+use Prim.Native.Nat.{ℕ, _+_, _-_, _*_, _≤_}
+use Rattle.octets.proofs.PasteLaws.{paste-none, paste-all, length-paste, length-part}
+use Rattle.octets.specs.Pastes.{pasted}
+use Rattle.writing.proofs.ColumnParts.{length-columns, columns-within, column-turn}
+use Rattle.writing.proofs.Joined.{next-part, part-within, parts-small}
+use Rattle.writing.proofs.cell.put_columns.Statement.{statement}
+use Rattle.writing.proofs.cell.put_columns.Tie as tie
+use Rattle.writing.specs.Grid.{columnsWritten}
+use borrow.Author.Needs.{needs}
+use lib.IntN.{ℤ}
+use lib.ListN.{length}
+use mathlib.Core.List.{List}
+use mathlib.Core.Path.{_≡_, refl, sym, ap, _∙_}
+use native.Mathlib.Omega.{arith}
+
+record Inv (out₀ : List ℕ) (columns posts : ℕ) (heights : List ℤ) (out : List ℕ) (k at from : ℕ) : Type 0 where
+  within : k ≤ columns
+  at-part : at ≡ k * (12 + 2 * posts)
+  from-part : from ≡ k * posts
+  long : length out ≡ length out₀
+  put : out ≡ pasted out₀ 0 (columnsWritten posts heights k)
+
+abbrev Inv-loop : tie.InvT-loop
+Inv-loop out₀ columns posts heights size k₀ at₀ from₀ out k at from = Inv out₀ columns posts heights out k at from
+
+abbrev μ-loop : tie.MeasureT-loop
+μ-loop out₀ columns posts heights size k₀ at₀ from₀ out k at from = columns - k
+
+-- the next column's bytes and its heights are there
+record Inside (out : List ℕ) (heights : List ℤ) (posts at from : ℕ) : Type 0 where
+  bytes : at + (12 + 2 * posts) ≤ length out
+  there : from + posts ≤ length heights
+  out-small : length out ≤ 3601 * 7214
+  heights-small : length heights ≤ 3601 * 7214
+
+inside : (c : tie.In-loop Inv-loop μ-loop) →
+    let l = c .before in
+    let a = l .before .before .args in
+    Inside (l .loop .out) (a .heights .now) (a .posts) (l .loop .at) (l .loop .from)
+inside c =
+    let l = c .before in
+    let a = l .before .before .args in
+    let pre = l .before .before .pre in
+    let i = l .loop .inv in
+    let bytes = part-within (l .loop .k) (a .columns) (12 + 2 * a .posts) (c .loop-test .taken) in
+    let posts = part-within (l .loop .k) (a .columns) (a .posts) (c .loop-test .taken) in
+    record {
+      bytes = omega (arith, i .at-part, i .long, pre .0, bytes);
+      there = omega (arith, i .from-part, pre .1 .0, posts);
+      out-small = omega (arith, i .long, pre .0, parts-small (a .columns) (12 + 2 * a .posts) (pre .1 .1 .0) (omega (arith, pre .1 .1 .1)));
+      heights-small = omega (arith, pre .1 .0, parts-small (a .columns) (a .posts) (pre .1 .1 .0) (omega (arith, pre .1 .1 .1)));
+    }
+
+mul-size : tie.Need-mul-size Inv-loop μ-loop
+mul-size c = search needs
+
+add-size : tie.Need-add-size Inv-loop μ-loop
+add-size c = search needs
+
+loop-holds : tie.Need-loop-holds Inv-loop μ-loop
+unfolding columnsWritten
+loop-holds c = record {
+  within = omega arith;
+  at-part = omega arith;
+  from-part = omega arith;
+  long = refl;
+  put = sym (paste-none (c .before .args .out .now) 0);
+}
+
+add-next : tie.Need-add-next Inv-loop μ-loop
+add-next c = omega (arith, inside c)
+
+add-to : tie.Need-add-to Inv-loop μ-loop
+add-to c = omega (arith, inside c)
+
+sub-put-column : tie.Need-sub-put-column Inv-loop μ-loop
+sub-put-column c = omega arith
+
+part-put-column-start : tie.Need-part-put-column-start Inv-loop μ-loop
+part-put-column-start c = search needs
+
+part-put-column-end : tie.Need-part-put-column-end Inv-loop μ-loop
+part-put-column-end c = omega (arith, inside c)
+
+mul-put-column : tie.Need-mul-put-column Inv-loop μ-loop
+mul-put-column c = omega (arith, inside (c .before))
+
+sub-put-column-2 : tie.Need-sub-put-column-2 Inv-loop μ-loop
+sub-put-column-2 c = omega arith
+
+part-put-column-start-2 : tie.Need-part-put-column-start-2 Inv-loop μ-loop
+part-put-column-start-2 c = search needs
+
+part-put-column-end-2 : tie.Need-part-put-column-end-2 Inv-loop μ-loop
+part-put-column-end-2 c = omega (arith, inside (c .before))
+
+put-column-requires : tie.Need-put-column-requires Inv-loop μ-loop
+put-column-requires c κs =
+    let t = c .before .before in
+    let l = t .before in
+    let a = l .before .before .args in
+    let i = inside t in
+    let bytes = length-part (l .loop .out) (l .loop .at) (l .loop .at + (12 + 2 * a .posts)) (omega arith) (i .bytes) in
+    let posts = length-part (a .heights .now) (l .loop .from) (l .loop .from + a .posts) (omega arith) (i .there) in
+    let pre = l .before .before .pre in
+    (omega (arith, bytes, posts), (omega (arith, posts, pre .1 .1 .1), omega (arith, t .loop-test .taken, pre .1 .1 .0)))
+
+add-k : tie.Need-add-k Inv-loop μ-loop
+add-k c = search needs
+
+loop-less : tie.Need-loop-less Inv-loop μ-loop
+loop-less c = search needs
+
+loop-again : tie.Need-loop-again Inv-loop μ-loop
+loop-again c =
+    let q = c .before .before in
+    let t = q .before .before .before in
+    let l = t .before in
+    let a = l .before .before .args in
+    let pre = l .before .before .pre in
+    let i = l .loop .inv in
+    let put =
+    column-turn (a .posts) (a .columns) (a .heights .now) (pre .1 .0) (a .out .now) (l .loop .k) (t .loop-test .taken) (pre .0)
+    (l .loop .out) (l .loop .at) (l .loop .from) (q .put-column .last .0) (i .put) (i .at-part) (i .from-part) (q .put-column .ensures)
+    in
+    record {
+      within = omega (arith, t .loop-test .taken);
+      at-part = omega (arith, i .at-part, next-part (l .loop .k) (12 + 2 * a .posts));
+      from-part = omega (arith, i .from-part, next-part (l .loop .k) (a .posts));
+      long = ap length put ∙ length-paste (a .out .now) 0 _ (rw (pre .0) (columns-within (a .posts) (a .columns) (a .heights .now) (pre .1 .0) (l .loop .k + 1) (omega (arith, t .loop-test .taken))));
+      put = put;
+    }
+
+same-length : tie.Need-same-length Inv-loop μ-loop
+same-length c = c .before .loop .inv .long
+
+returns : tie.Need-returns Inv-loop μ-loop
+returns c =
+    let l = c .before in
+    let a = l .before .before .args in
+    let pre = l .before .before .pre in
+    let i = l .loop .inv in
+    let all : l .loop .k ≡ a .columns = omega (arith, i .within, c .loop-test .left) in
+    i .put ∙ ap (λ (k : ℕ). pasted (a .out .now) 0 (columnsWritten (a .posts) (a .heights .now) k)) all
+    ∙ paste-all (a .out .now) (columnsWritten (a .posts) (a .heights .now) (a .columns))
+    (length-columns (a .posts) (a .columns) (a .heights .now) (pre .1 .0) (a .columns) (omega arith) ∙ sym (pre .0))
+
+pub put-columns-spec : {M : Type 1} → statement M
+put-columns-spec =
+    tie.close
+    (tie.spec
+    Inv-loop
+    μ-loop
+    mul-size
+    add-size
+    loop-holds
+    add-next
+    add-to
+    sub-put-column
+    part-put-column-start
+    part-put-column-end
+    mul-put-column
+    sub-put-column-2
+    part-put-column-start-2
+    part-put-column-end-2
+    put-column-requires
+    add-k
+    loop-less
+    loop-again
+    same-length
+    returns)

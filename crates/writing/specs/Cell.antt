@@ -1,0 +1,45 @@
+-- The writer of a whole cell (rules W1 and W4): 9 with the lowest item, then 10, 11 and 12.
+use Prim.Native.Nat.{ℕ, _*_}
+use mathlib.Core.List.{List}
+use lib.IntN.{ℤ}
+use lib.ListN.{length}
+use lib.Dec.{eqb}
+use Rattle.octets.specs.Choice.{pick}
+use Rattle.answers.specs.Told.{Told, told, act}
+use Rattle.answers.specs.declared.Refusal.the-variants.{Item}
+use Rattle.answers.specs.declared.Outcome.{Outcome}
+use Rattle.answers.specs.declared.Outcome.the-variants.{Refused}
+use Rattle.layout.specs.declared.Grid.{Grid}
+use Rattle.describing.specs.Items.{badItem}
+use Rattle.headers.specs.Judged.{voidsAllowed}
+use Rattle.describing.specs.Written.{dueFor, headersFor}
+use Rattle.describing.specs.declared.Description.{Description}
+use Rattle.headers.specs.declared.Facts.{Facts}
+use Rattle.writing.specs.Given.{judgedPosts, outputAfter}
+use Rattle.writing.specs.Grid.{afresh}
+
+-- what headers written from a description will say
+unfoldable pub factsFor : Description → Facts
+factsFor d = record { grid = dueFor d .grid; latitude = d .latitude; longitude = d .longitude; partial = d .partial }
+
+-- the posts of a grid, all its columns together
+abbrev pub postsDue : Grid → ℕ
+postsDue g = g .columns * g .posts
+
+-- W1: the order of the call, for an output of so many bytes
+unfoldable pub judgedCell : Description → List ℤ → ℕ → Outcome
+judgedCell d zs room =
+    pick (eqb (badItem d) 0)
+    (judgedPosts (postsDue (factsFor d .grid)) (factsFor d .grid .bytes .cell) (voidsAllowed (factsFor d)) zs room)
+    (Refused (Item (badItem d)))
+
+-- the cell of a description and a grid
+unfoldable pub cellOf : Description → List ℤ → List ℕ
+cellOf d zs = afresh (headersFor d) (factsFor d .grid) zs
+
+-- what is told of the call, and the output at its end
+unfoldable pub cellTold : Description → List ℤ → List ℕ → Told
+cellTold d zs out = told act (judgedCell d zs (length out))
+
+unfoldable pub cellOutput : Description → List ℤ → List ℕ → List ℕ
+cellOutput d zs out = outputAfter (judgedCell d zs (length out)) (cellOf d zs) out

@@ -1,0 +1,36 @@
+-- The column writer (rule X1): 9 for the level, 8 for the number, then 10, 11 and 12. Voids are allowed.
+use Prim.Native.Nat.{ℕ}
+use mathlib.Core.Bool.{true}
+use mathlib.Core.List.{List}
+use lib.IntN.{ℤ}
+use lib.ListN.{length}
+use lib.Dec.{ltb}
+use Rattle.octets.specs.Choice.{pick}
+use Rattle.answers.specs.Told.{Told, told, act}
+use Rattle.answers.specs.declared.Refusal.the-variants.{Item, OffGrid}
+use Rattle.answers.specs.declared.Outcome.{Outcome}
+use Rattle.answers.specs.declared.Outcome.the-variants.{Refused}
+use Rattle.layout.specs.Levels.{postsOf, columnBytes}
+use Rattle.layout.specs.Grid.{columnsOf}
+use Rattle.columns.specs.Column.{columnOf}
+use Rattle.writing.specs.Given.{judgedPosts, outputAfter}
+
+-- the columns of a level in zone I, whose near edges begin at 0
+abbrev pub zoneOneColumns : ℕ → ℕ
+zoneOneColumns level = columnsOf level 0
+
+-- X1: the order of the call, for an output of so many bytes
+unfoldable pub judgedColumn : ℕ → ℕ → List ℤ → ℕ → Outcome
+judgedColumn level number zs room =
+    pick (ltb level 3)
+    (pick (ltb number (zoneOneColumns level))
+    (judgedPosts (postsOf level) (columnBytes (postsOf level)) true zs room)
+    (Refused OffGrid))
+    (Refused (Item 1))
+
+-- what is told of the call, and the output at its end
+unfoldable pub columnTold : ℕ → ℕ → List ℤ → List ℕ → Told
+columnTold level number zs out = told act (judgedColumn level number zs (length out))
+
+unfoldable pub columnOutput : ℕ → ℕ → List ℤ → List ℕ → List ℕ
+columnOutput level number zs out = outputAfter (judgedColumn level number zs (length out)) (columnOf number zs) out
