@@ -1,2 +1,3 @@
 -- The theorems about the library as a whole.
 pub mod Examples
+pub mod WrittenCells
