@@ -1,3 +1,4 @@
 -- What a column is, and how one is judged.
 pub mod Column
 pub mod Judged
+pub mod Stored

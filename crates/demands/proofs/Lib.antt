@@ -1,3 +1,4 @@
 -- The theorems about the library as a whole.
 pub mod Examples
 pub mod WrittenCells
+pub mod EditedCells

@@ -1,0 +1,92 @@
+-- What a reached post is: its column there whole and good; and that column as it is lent, and as it comes back.
+use Prim.Native.Nat.{ℕ, _+_, _*_, _-_, _≤_, _<_}
+use native.Mathlib.Omega.{arith}
+use mathlib.Core.Path.{_≡_, refl, ap, subst, _∙_}
+use mathlib.Core.List.{List}
+use lib.IntN.{ℤ}
+use lib.ListN.{length, take, drop}
+use borrow.Rule.Slice.PartMut.{putMid}
+use Rattle.octets.specs.Numbers.{numberAt}
+use Rattle.octets.specs.Pastes.{pasted}
+use Rattle.octets.specs.Sums.{sumOf}
+use Rattle.octets.proofs.PasteLaws.{part-back}
+use Rattle.layout.specs.Levels.{columnBytes}
+use Rattle.headers.specs.Judged.{factsIn, voidsAllowed}
+use Rattle.headers.proofs.Exactly.{follows-good}
+use Rattle.headers.proofs.FirstFour.{good-facts}
+use Rattle.posts.specs.Heights.{wordOf}
+use Rattle.columns.specs.Column.{sumAt, GoodColumn}
+use Rattle.columns.specs.Stored.{stored}
+use Rattle.columns.proofs.StoredBytes.{length-stored}
+use Rattle.reading.specs.Cell.{startOf, columnAt}
+use Rattle.reading.specs.Reach.{spotIn, reached}
+use Rattle.reading.specs.declared.reach.Spot.{Spot}
+use Rattle.reading.specs.declared.reach.Reached.{Reached}
+use Rattle.reading.specs.declared.reach.Reached.the-variants.{At}
+use Rattle.reading.proofs.ReachedExactly.{OnGrid, endIn, Row, bad-headers, off, cut, column, good, row}
+use Rattle.reading.proofs.Turns.{start-small}
+use Rattle.editing.specs.Edit.{storedIn}
+
+-- the bytes of a spot's column
+abbrev pub partAt : List ℕ → Spot → List ℕ
+partAt s spot = take (columnBytes (spot .posts)) (drop (spot .start) s)
+
+-- a spot that was reached: its post inside, its column there whole and good, and numbers that fit
+pub record SpotOf (s : List ℕ) (c p : ℕ) (spot : Spot) : Type 0 where
+  pub is : spot ≡ spotIn s (factsIn s) c p
+  pub on : OnGrid s c p
+  pub inside : p < spot .posts
+  pub few : spot .posts ≤ 3601
+  pub small : spot .start ≤ 25981042
+  pub whole : spot .start + columnBytes (spot .posts) ≤ length s
+  pub column : GoodColumn (partAt s spot) c (spot .posts) (spot .voids)
+
+module _ (s : List ℕ) (c p : ℕ) where
+  -- the spot of a good column
+  pub spot-of : OnGrid s c p → endIn s c ≤ length s
+      → GoodColumn (columnAt s (factsIn s .grid) c) c (factsIn s .grid .posts) (voidsAllowed (factsIn s)) → SpotOf s c p (spotIn s (factsIn s) c p)
+  spot-of on whole g =
+      let ranged = good-facts s (factsIn s) (follows-good s (on .headers)) .grid in
+      let size = ranged .column in
+      record {
+        is = refl;
+        on = on;
+        inside = on .post;
+        few = ranged .posts-high;
+        small = omega (arith, start-small c (factsIn s .grid .bytes .column) (omega (arith, on .column, ranged .columns-high)) (omega (arith, size, ranged .posts-high)));
+        whole = omega (arith, size);
+        column = subst (λ (n : ℕ). GoodColumn (take n (drop (startOf (factsIn s .grid) c) s)) c (factsIn s .grid .posts) (voidsAllowed (factsIn s))) size g;
+      }
+
+  by-row : (x : Reached) → Row s c p x → (spot : Spot) → x ≡ At spot → SpotOf s c p spot
+  by-row _ (bad-headers r j) spot e = let z : _≡_ {A = ℕ} 0 1 = cc in absurd (omega arith)
+  by-row _ (off h away) spot e = let z : _≡_ {A = ℕ} 0 1 = cc in absurd (omega arith)
+  by-row _ (cut o short) spot e = let z : _≡_ {A = ℕ} 0 1 = cc in absurd (omega arith)
+  by-row _ (column o whole r j) spot e = let z : _≡_ {A = ℕ} 0 1 = cc in absurd (omega arith)
+  by-row _ (good o whole g) spot e = let same : spotIn s (factsIn s) c p ≡ spot = cc in subst (SpotOf s c p) same (spot-of o whole g)
+
+  pub spot-reached : (spot : Spot) → reached s c p ≡ At spot → SpotOf s c p spot
+  spot-reached spot e = by-row (reached s c p) (row s c p) spot e
+
+-- the column, lent as the part from its start to its end
+module _ (s : List ℕ) (c p : ℕ) (spot : Spot) (at : SpotOf s c p spot) where
+  abbrev pub lent : List ℕ
+  lent = take (spot .start + 12 + 2 * spot .posts - spot .start) (drop (spot .start) s)
+
+  lent-is : lent ≡ partAt s spot
+  lent-is = let n : spot .start + 12 + 2 * spot .posts - spot .start ≡ columnBytes (spot .posts) = omega arith in rw n
+
+  -- all that storing a post in it needs
+  pub can-store : (length lent ≡ 12 + 2 * spot .posts)
+      × ((p < spot .posts) × ((spot .posts ≤ 3601) × (numberAt lent (sumAt (spot .posts)) 4 ≡ sumOf (take (sumAt (spot .posts)) lent))))
+  can-store = rw lent-is (at .column .long, (at .inside, (at .few, at .column .checksum)))
+
+  -- and what the cell is once it came back
+  pub stored-back : (z : ℤ) (back : List ℕ) → back ≡ stored lent (spot .posts) p (wordOf z)
+      → putMid (spot .start) (spot .start + 12 + 2 * spot .posts - spot .start) s back ≡ storedIn s spot p z
+  unfolding storedIn
+  stored-back z back e =
+      let same : back ≡ stored (partAt s spot) (spot .posts) p (wordOf z) = e ∙ ap (λ (l : List ℕ). stored l (spot .posts) p (wordOf z)) lent-is in
+      let long = length-stored (partAt s spot) (spot .posts) p (wordOf z) (at .column .long) (at .inside) in
+      part-back s (spot .start) (spot .start + 12 + 2 * spot .posts - spot .start) back (ap length same ∙ long ∙ at .column .long ∙ omega arith)
+      ∙ ap (pasted s (spot .start)) same

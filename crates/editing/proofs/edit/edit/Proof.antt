@@ -1,0 +1,138 @@
+-- `edit`: the post that is reached, then its height, then its column lent and stored in.
+use Rattle.answers.specs.Told.{told, act}
+use Rattle.columns.specs.Stored.{stored}
+use Rattle.editing.proofs.EditBy.{not-reached, height-refused, height-stored}
+use Rattle.editing.proofs.SpotReached.{SpotOf, spot-reached, lent, can-store, stored-back}
+use Rattle.editing.proofs.edit.edit.Statement.{statement}
+use Rattle.editing.proofs.edit.edit.Tie as tie
+use Rattle.editing.specs.Edit.{editTold}
+use Rattle.posts.specs.Heights.{heightAllowed, wordOf}
+use Rattle.reading.specs.Reach.{reached}
+use Rattle.reading.specs.declared.reach.Reached.the-variants.{At}
+use Rattle.reading.specs.declared.reach.Spot.{Spot}
+use borrow.Author.Needs.{needs}
+use borrow.Author.Tests.{not-true, not-false}
+use mathlib.Core.Path.{_≡_, sym, ap, _∙_}
+use mir.Facts.{toZ-ofZ}
+use mir.Syntax.{w64}
+use mir.Val.{toZ, ofZ}
+use native.Mathlib.Omega.{arith}
+
+-- the post was reached
+module _ (c : tie.After-known-told) where
+  abbrev start : tie.Start
+  start = c .before .before .before .before .before .before
+
+  abbrev spot : Spot
+  spot = c .before .reached .given .0 .0
+
+  found : reached (start .args .cell .now) (start .args .column) (start .args .post) ≡ At spot
+  found = sym (c .before .before .before .reach .ensures) ∙ c .before .reached .given .1
+
+  at : SpotOf (start .args .cell .now) (start .args .column) (start .args .post) spot
+  at = spot-reached _ _ _ spot found
+
+  -- the height, as the machine has it in 64 bits
+  height-is : toZ w64 (ofZ w64 (start .args .height)) ≡ start .args .height
+  height-is = toZ-ofZ (start .fits .height)
+
+-- whether the height is allowed is what was found
+allowed : (c : tie.After-is-allowed) → heightAllowed (spot (c .before) .voids) (start (c .before) .args .height) ≡ c .is-allowed .result
+allowed c = sym (c .is-allowed .ensures ∙ ap (heightAllowed (spot (c .before) .voids)) (height-is (c .before)))
+
+reach-requires : tie.Need-reach-requires
+reach-requires c κs = search needs
+
+enum-known-reached : tie.Need-enum-known-reached
+enum-known-reached c = search needs
+
+is-allowed-requires : tie.Need-is-allowed-requires
+is-allowed-requires c κs = search needs
+
+same-length : tie.Need-same-length
+same-length c = search needs
+
+returns : tie.Need-returns
+unfolding editTold
+returns c =
+    let k = c .before .before in
+    let by = height-refused _ _ _ _ (spot k) (found k) (allowed (c .before) ∙ not-true _ (c .if1 .taken)) in
+    (ap (told act) (sym (by .0)), sym (by .1))
+
+word-of-requires : tie.Need-word-of-requires
+word-of-requires c κs = search needs
+
+add-end : tie.Need-add-end
+add-end c = omega (arith, at (c .before .before .before))
+
+mul-end : tie.Need-mul-end
+mul-end c = omega (arith, at (c .before .before .before))
+
+add-end-2 : tie.Need-add-end-2
+add-end-2 c = omega (arith, at (c .before .before .before))
+
+sub-store : tie.Need-sub-store
+sub-store c = search needs
+
+part-store-start : tie.Need-part-store-start
+part-store-start c = search needs
+
+part-store-end : tie.Need-part-store-end
+part-store-end c = omega (arith, at (c .before .before .before))
+
+store-requires : tie.Need-store-requires
+store-requires c κs = let k = c .before .before .before .before in can-store _ _ _ (spot k) (at k)
+
+enum-known-reached-2 : tie.Need-enum-known-reached-2
+enum-known-reached-2 c = search needs
+
+same-length-2 : tie.Need-same-length-2
+same-length-2 c = search needs
+
+returns-2 : tie.Need-returns-2
+unfolding editTold
+returns-2 c =
+    let q = c .before .before in
+    let w = q .before .before in
+    let k = w .before .before .before in
+    let a = start k .args in
+    let by = height-stored _ _ _ _ (spot k) (found k) (allowed (w .before .before) ∙ not-false _ (w .before .if1 .left)) in
+    let word : w .word-of .result ≡ wordOf (a .height) = w .word-of .ensures ∙ ap wordOf (height-is k) in (
+      ap (told act) (sym (by .0)),
+      stored-back _ _ _ (spot k) (at k) (a .height) (q .store .last .0)
+          (q .store .ensures ∙ ap (stored (lent (a .cell .now) (a .column) (a .post) (spot k) (at k)) (spot k .posts) (a .post)) word)
+          ∙ sym (by .1),
+    )
+
+same-length-3 : tie.Need-same-length-3
+same-length-3 c = search needs
+
+returns-3 : tie.Need-returns-3
+unfolding editTold
+returns-3 c =
+    let r = c .before .before .before in
+    let by = not-reached _ _ _ _ _ (sym (r .reach .ensures) ∙ c .before .reached2 .given .1) in
+    (ap (told act) (sym (by .0)), sym (by .1))
+
+pub edit-spec : {M : Type 1} → statement M
+edit-spec =
+    tie.close
+    (tie.spec
+    reach-requires
+    enum-known-reached
+    is-allowed-requires
+    same-length
+    returns
+    word-of-requires
+    add-end
+    mul-end
+    add-end-2
+    sub-store
+    part-store-start
+    part-store-end
+    store-requires
+    enum-known-reached-2
+    same-length-2
+    returns-2
+    same-length-3
+    returns-3)

@@ -1,0 +1,3 @@
+-- What an edit judges, and what it leaves.
+pub mod Edit
+pub mod Sequence

@@ -1,0 +1,33 @@
+// The edit: one post of a cell made another height or void, its column changed as a part of the cell.
+ghost use mathlib.Core.Path.{_≡_};
+ghost use Rattle.answers.specs.Told as told;
+ghost use Rattle.editing.specs.Edit.{editTold, edited};
+use answers::Outcome;
+use answers::Refusal;
+use columns::store::store;
+use posts::heights::is_allowed;
+use posts::heights::word_of;
+use reading::reach::Reached;
+use reading::reach::reach;
+
+// Post `post` of column `column` made this height, -32767 for void; any bytes and any numbers.
+pub fn edit(cell: &mut [u8], column: usize, post: usize, height: i64) -> Outcome
+    ensures { λ r. ⌜ told.told told.act r ≡ editTold (now (cell .entry)) column post height ⌝ }
+    ensures { λ _. ⌜ now (cell .exit) ≡ edited (now (cell .entry)) column post height ⌝ }
+{
+    let reached = reach(cell, column, post);
+    match reached {
+        Reached::At(spot) => {
+            if !is_allowed(height, spot.voids) {
+                return Outcome::Refused(Refusal::Height(0));
+            }
+            let word = word_of(height);
+            let start = spot.start;
+            let posts = spot.posts;
+            let end = start + 12 + 2 * posts;
+            store(&mut cell[start..end], posts, post, word);
+            Outcome::Done
+        }
+        Reached::Refused(refusal) => Outcome::Refused(refusal),
+    }
+}
