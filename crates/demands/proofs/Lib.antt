@@ -2,3 +2,4 @@
 pub mod Examples
 pub mod WrittenCells
 pub mod EditedCells
+pub mod PlacesFit

@@ -1,0 +1,231 @@
+-- What every call tells fits the bits that a packed answer has for it (rule B1), so that nothing is cut.
+use Prim.Native.Nat.{ℕ, zero, suc, _+_, _*_, _<_, _≤_}
+use native.Mathlib.Omega.{arith}
+use mathlib.Core.Path.{_≡_, refl, sym, ap, subst, _∙_}
+use mathlib.Core.Bool.{Bool, true, false}
+use mathlib.Core.List.{List}
+use lib.Dec.{eqb, leb, lit<}
+use lib.IntN.{ℤ}
+use lib.ListN.{length}
+use Rattle.octets.specs.Choice.{pick}
+use Rattle.octets.specs.Scan.{scan}
+use Rattle.octets.proofs.ChoiceLaws.{by-test}
+use Rattle.answers.specs.Told.{Told, refused, more, accepted, height, void, heightAt, voidAt, done, numbered, placeTold, told, act}
+use Rattle.answers.specs.Told as telling
+use Rattle.answers.specs.declared.Refusal.{Refusal}
+use Rattle.answers.specs.declared.Refusal.the-variants as because
+use Rattle.answers.specs.declared.Outcome.{Outcome}
+use Rattle.answers.specs.declared.Outcome.the-variants as outcome
+use Rattle.layout.specs.declared.Grid.{Grid}
+use Rattle.layout.proofs.Ranges.{Ranged, ranged}
+use Rattle.layout.specs.Levels.{postsOf, columnBytes}
+use Rattle.layout.specs.Grid.{gridOf}
+use Rattle.posts.specs.Words.{postOf}
+use Rattle.posts.specs.declared.Post.{Post}
+use Rattle.posts.specs.declared.Post.the-variants as post
+use Rattle.fields.specs.Table.{fieldAt}
+use Rattle.headers.specs.Judged.{judged, factsIn, voidsAllowed, Follows}
+use Rattle.headers.specs.declared.Facts.{Facts}
+use Rattle.headers.specs.declared.Judged.{Judged}
+use Rattle.headers.specs.declared.Judged.the-variants as headers
+use Rattle.headers.proofs.Exactly.{Answer, short, breaks, good, answered, follows-good}
+use Rattle.headers.proofs.FirstFour.{good-facts}
+use Rattle.headers.proofs.TableRows.{row}
+use Rattle.columns.specs.Judged.{judgedColumn, RefusedIn}
+use Rattle.columns.specs.declared.Judged as Columns
+use Rattle.columns.specs.declared.Judged.the-variants as columns
+use Rattle.columns.specs.Column.{wordIn}
+use Rattle.columns.proofs.Damage.{judged-in}
+use Rattle.reading.specs.Cell.{startOf, columnAt}
+use Rattle.reading.specs.Lookup.{postReads, readingOf, lookedUp}
+use Rattle.reading.specs.Reach.{reached}
+use Rattle.reading.specs.declared.reach.Reached.{Reached}
+use Rattle.reading.specs.declared.reach.Reached.the-variants as reach
+use Rattle.reading.proofs.ReachedExactly as reading
+use Rattle.locating.specs.Position.{nearestColumn, nearestPost, saidAt, readAt, located}
+use Rattle.locating.proofs.PositionExactly as position
+use Rattle.writing.specs.Column.{columnTold}
+use Rattle.writing.proofs.Joined.{part-within}
+use Rattle.writing.proofs.GivenExactly.{GivenRow, differs, not-held, no-room, fine}
+use Rattle.writing.proofs.ColumnExactly as column
+use Rattle.editing.specs.Edit.{judgedEdit, editTold}
+use Rattle.editing.proofs.EditExactly as editing
+use Rattle.reading.specs.Intake.{orRest, judgeNext, ended, columnsFrom, takenBy, taken}
+
+-- bits for each part of what is told: 8 for a number, 56 for a place, 16 for a count or an index
+abbrev pub Fits : Told → Type 0
+Fits (refused number place) = (number < 256) × (place < 72057594037927936)
+Fits more = Unit
+Fits (accepted level columns posts) = (level < 65536) × ((columns < 65536) × (posts < 65536))
+Fits (height z) = Unit
+Fits void = Unit
+Fits (heightAt column post z) = (column < 65536) × (post < 65536)
+Fits (voidAt column post) = (column < 65536) × (post < 65536)
+Fits done = Unit
+
+-- the longest cell: no offset in a file that is judged lies past it
+abbrev most : ℕ
+most = 25981042
+
+-- a refusal fits where its place is not past that
+numbered-fits : (r : Refusal) → placeTold (numbered r) ≤ most → Fits (numbered r)
+numbered-fits (because.Short n) h = (lit< tt, omega arith)
+numbered-fits (because.Field n) h = (lit< tt, omega arith)
+numbered-fits (because.Cut n) h = (lit< tt, omega arith)
+numbered-fits (because.Preamble n) h = (lit< tt, omega arith)
+numbered-fits (because.Checksum n) h = (lit< tt, omega arith)
+numbered-fits (because.Word n) h = (lit< tt, omega arith)
+numbered-fits (because.Surplus n) h = (lit< tt, omega arith)
+numbered-fits because.OffGrid h = (lit< tt, lit< tt)
+numbered-fits (because.Item n) h = (lit< tt, omega arith)
+numbered-fits (because.GridLength n) h = (lit< tt, omega arith)
+numbered-fits (because.Height n) h = (lit< tt, omega arith)
+numbered-fits (because.Room n) h = (lit< tt, omega arith)
+
+-- a refusal of headers has its place in them
+headers-by : (s : List ℕ) (j : Judged) → Answer s j → (r : Refusal) → j ≡ headers.Refused r → placeTold (numbered r) ≤ most
+headers-by s _ (short h) r e = let same : because.Short (length s) ≡ r = cc in subst (λ (x : Refusal). placeTold (numbered x) ≤ most) same (omega arith)
+headers-by s _ (breaks i f) r e =
+    let same : because.Field (fieldAt i .0) ≡ r = cc in
+    subst (λ (x : Refusal). placeTold (numbered x) ≤ most) same (omega (arith, row i (f .below) .within))
+headers-by s _ (good f) r e = let z : _≡_ {A = ℕ} 0 1 = cc in absurd (omega arith)
+
+headers-fit : (s : List ℕ) (r : Refusal) → judged s ≡ headers.Refused r → Fits (numbered r)
+headers-fit s r e = numbered-fits r (headers-by s (judged s) (answered s) r e)
+
+-- a refusal of a column has its place in it
+column-fits : (s : List ℕ) (k posts : ℕ) (voids : Bool) (base : ℕ) → base + (12 + 2 * posts) ≤ most → (r : Refusal)
+    → judgedColumn s k posts voids base ≡ columns.Refused r → Fits (numbered r)
+column-fits s k posts voids base small r e =
+    let inside = judged-in s k posts voids base (λ q. let z : _≡_ {A = ℕ} 0 1 = cc in absurd (omega arith)) in
+    let there : RefusedIn base (base + (12 + 2 * posts)) (columns.Refused r) = subst (RefusedIn base (base + (12 + 2 * posts))) e inside in
+    numbered-fits r (omega (arith, there .1))
+
+module _ (s : List ℕ) (g : Grid) (voids : Bool) (in-range : Ranged g) where
+  -- no column of a grid ends past the longest cell
+  end-small : (k : ℕ) → k < g .columns → startOf g k + g .bytes .column ≤ most
+  end-small k h = omega (arith, part-within k (g .columns) (g .bytes .column) h, in-range .cell, in-range .cell-high)
+
+  ended-fits : (long : ℕ) → Fits (ended long g)
+  unfolding ended
+  ended-fits long =
+      by-test (eqb long (g .bytes .cell))
+      (λ e. rw e (omega (arith, in-range .level), (omega (arith, in-range .columns-high), omega (arith, in-range .posts-high))))
+      (λ e. rw e (lit< tt, omega (arith, in-range .cell-high)))
+
+  -- a column's refusal, or the rest
+  next-fits : (k : ℕ) → k < g .columns → (x : Columns.Judged) → judgedColumn (columnAt s g k) k (g .posts) voids (startOf g k) ≡ x
+      → (rest : Told) → Fits rest → Fits (orRest x rest)
+  next-fits k h columns.Good e rest f = f
+  next-fits k h (columns.Refused r) e rest f =
+      column-fits (columnAt s g k) k (g .posts) voids (startOf g k) (omega (arith, end-small k h, in-range .column)) r e
+
+  columns-fit : (k n : ℕ) → k + n ≤ g .columns → Fits (columnsFrom s g voids k n)
+  unfolding scan judgeNext
+  columns-fit k zero h = ended-fits (length s)
+  columns-fit k (suc n) h =
+      let here : k < g .columns = omega arith in
+      by-test (leb (startOf g k + g .bytes .column) (length s))
+      (λ e. rw e (next-fits k here (judgedColumn (columnAt s g k) k (g .posts) voids (startOf g k)) refl _ (columns-fit (k + 1) n (omega arith))))
+      (λ e. rw e (lit< tt, omega (arith, end-small k here)))
+
+intake-by : (s : List ℕ) (x : Judged) → judged s ≡ x → Fits (takenBy s x)
+intake-by s (headers.Good f) e = columns-fit s (f .grid) (voidsAllowed f) (good-facts s f e .grid) 0 (f .grid .columns) (omega arith)
+intake-by s (headers.Refused r) e = headers-fit s r e
+
+-- intake
+pub intake-fits : (s : List ℕ) → Fits (taken s)
+unfolding taken
+intake-fits s = intake-by s (judged s) refl
+
+-- a post that is reached, or not, under what is said of it
+module _ (s : List ℕ) (c p : ℕ) where
+  follows-ranged : Follows s → Ranged (factsIn s .grid)
+  follows-ranged h = good-facts s (factsIn s) (follows-good s h) .grid
+
+  refused-fits : (x : Reached) → reading.Row s c p x → (r : Refusal) → x ≡ reach.Refused r → Fits (numbered r)
+  refused-fits _ (reading.bad-headers r e) q same = let t : r ≡ q = cc in subst (λ (y : Refusal). Fits (numbered y)) t (headers-fit s r e)
+  refused-fits _ (reading.off h away) q same = let t : because.OffGrid ≡ q = cc in subst (λ (y : Refusal). Fits (numbered y)) t (lit< tt, lit< tt)
+  refused-fits _ (reading.cut o cut-off) q same =
+      let t : because.Cut (startOf (factsIn s .grid) c) ≡ q = cc in
+      subst (λ (y : Refusal). Fits (numbered y)) t
+      (lit< tt, omega (arith, end-small s (factsIn s .grid) true (follows-ranged (o .headers)) c (o .column)))
+  refused-fits _ (reading.column o whole r e) q same =
+      let t : r ≡ q = cc in
+      let g = follows-ranged (o .headers) in
+      subst (λ (y : Refusal). Fits (numbered y)) t
+      (column-fits _ c (factsIn s .grid .posts) (voidsAllowed (factsIn s)) (startOf (factsIn s .grid) c)
+      (omega (arith, end-small s (factsIn s .grid) true g c (o .column), g .column)) r e)
+  refused-fits _ (reading.good o whole g) q same = let z : _≡_ {A = ℕ} 0 1 = cc in absurd (omega arith)
+
+  post-fits-by : (x : Reached) → reading.Row s c p x → Fits (told telling.post (readingOf x))
+  post-fits-by _ (reading.bad-headers r e) = refused-fits _ (reading.bad-headers r e) r refl
+  post-fits-by _ (reading.off h away) = refused-fits _ (reading.off h away) because.OffGrid refl
+  post-fits-by _ (reading.cut o cut-off) = refused-fits _ (reading.cut o cut-off) _ refl
+  post-fits-by _ (reading.column o whole r e) = refused-fits _ (reading.column o whole r e) r refl
+  post-fits-by _ (reading.good o whole g) = said-fits (postOf (wordIn (columnAt s (factsIn s .grid) c) p))
+    where
+      said-fits : (x : Post) → Fits (told telling.post (postReads x))
+      said-fits (post.Height z) = tt
+      said-fits post.Void = tt
+
+  near-fits-by : (x : Reached) → reading.Row s c p x → Fits (readAt c p x)
+  near-fits-by _ (reading.bad-headers r e) = refused-fits _ (reading.bad-headers r e) r refl
+  near-fits-by _ (reading.off h away) = refused-fits _ (reading.off h away) because.OffGrid refl
+  near-fits-by _ (reading.cut o cut-off) = refused-fits _ (reading.cut o cut-off) _ refl
+  near-fits-by _ (reading.column o whole r e) = refused-fits _ (reading.column o whole r e) r refl
+  near-fits-by _ (reading.good o whole g) = said-fits (postOf (wordIn (columnAt s (factsIn s .grid) c) p))
+    where
+      small : (c < 65536) × (p < 65536)
+      small =
+          let f = follows-ranged (o .headers) in
+          (omega (arith, o .column, f .columns-high), omega (arith, o .post, f .posts-high))
+
+      said-fits : (x : Post) → Fits (saidAt c p (postReads x))
+      said-fits (post.Height z) = small
+      said-fits post.Void = small
+
+-- post lookup
+pub post-fits : (s : List ℕ) (c p : ℕ) → Fits (lookedUp s c p)
+unfolding lookedUp
+post-fits s c p = post-fits-by s c p (reached s c p) (reading.row s c p)
+
+-- position lookup
+position-by : (s : List ℕ) (latitude longitude : ℤ) (t : Told) → position.Row s latitude longitude t → Fits t
+position-by s latitude longitude _ (position.bad-headers r e) = headers-fit s r e
+position-by s latitude longitude _ (position.off f j e) = (lit< tt, lit< tt)
+position-by s latitude longitude _ (position.near f j k e) =
+    near-fits-by s (nearestColumn f k) (nearestPost f k) (reached s (nearestColumn f k) (nearestPost f k)) (reading.row s (nearestColumn f k) (nearestPost f k))
+
+pub position-fits : (s : List ℕ) (latitude longitude : ℤ) → Fits (located s latitude longitude)
+position-fits s latitude longitude = position-by s latitude longitude (located s latitude longitude) (position.row s latitude longitude)
+
+-- the edit
+edit-by : (s : List ℕ) (c p : ℕ) (z : ℤ) (x : Outcome) → editing.EditRow s c p z x → Fits (told act x)
+edit-by s c p z _ (editing.reaching r row) = refused-fits s c p (reach.Refused r) row r refl
+edit-by s c p z _ (editing.height r bad) = (lit< tt, lit< tt)
+edit-by s c p z _ (editing.done r a) = tt
+
+pub edit-fits : (s : List ℕ) (c p : ℕ) (z : ℤ) → Fits (editTold s c p z)
+unfolding editTold
+edit-fits s c p z = edit-by s c p z (judgedEdit s c p z) (editing.row s c p z)
+
+-- the writers
+given-by : (posts bytes : ℕ) (voids : Bool) (zs : List ℤ) (room : ℕ) → posts ≤ most → bytes ≤ most
+    → (x : Outcome) → GivenRow posts bytes voids zs room x → Fits (told act x)
+given-by posts bytes voids zs room hp hb _ (differs e) = (lit< tt, omega arith)
+given-by posts bytes voids zs room hp hb _ (not-held l n h bad f) = (lit< tt, omega arith)
+given-by posts bytes voids zs room hp hb _ (no-room l f h) = (lit< tt, omega arith)
+given-by posts bytes voids zs room hp hb _ (fine l f h) = tt
+
+column-by : (level number : ℕ) (zs : List ℤ) (room : ℕ) (x : Outcome) → column.ColumnRow level number zs room x → Fits (told act x)
+unfolding gridOf
+column-by level number zs room _ (column.level-past h) = (lit< tt, lit< tt)
+column-by level number zs room _ (column.number-past h u) = (lit< tt, lit< tt)
+column-by level number zs room x (column.then-given _ h u r) =
+    let g = ranged level 0 h (lit< tt) in
+    given-by (postsOf level) (columnBytes (postsOf level)) true zs room (omega (arith, g .posts-high)) (omega (arith, g .posts-high)) x r
+
+pub column-fits-told : (level number : ℕ) (zs : List ℤ) (out : List ℕ) → Fits (columnTold level number zs out)
+unfolding columnTold
+column-fits-told level number zs out = column-by level number zs (length out) _ (column.row level number zs (length out))

@@ -1,0 +1,3 @@
+// The library as a C host links it: include/dted.h says what each call is for. Each packs the answer of the function below it.
+mod cells;
+mod grids;

@@ -1,0 +1,85 @@
+// Answers packed for a C host: one number of 64 bits each.
+ghost use mathlib.Core.Path.{_≡_};
+ghost use Rattle.answers.specs.Told as told;
+ghost use Rattle.packing.specs.Packed as by;
+use answers::Located;
+use answers::Outcome;
+use answers::Reading;
+use answers::Refusal;
+use answers::Verdict;
+
+// Void, as heights are given and answered.
+const VOID: i16 = -32767;
+
+// The 16 bits of a height.
+fn bits(height: i16) -> usize
+    ensures { λ r. ⌜ r ≡ by.bits height ⌝ }
+{
+    if height < 0 {
+        65535 - (-1 - height) as usize
+    } else {
+        height as usize
+    }
+}
+
+// Three values of 16 bits, the first one highest.
+pub fn three(a: usize, b: usize, c: usize) -> u64
+    ensures { λ r. ⌜ r ≡ by.three a b c ⌝ }
+{
+    (a % 0x10000 * 0x100000000 + b % 0x10000 * 0x10000 + c % 0x10000) as u64
+}
+
+// A refusal's number above its place.
+pub fn refusal(refusal: Refusal) -> u64
+    ensures { λ r. ⌜ r ≡ by.packed (told.numbered refusal) ⌝ }
+{
+    let told = answers::number(refusal);
+    (told.0 % 0x100 * 0x100000000000000 + told.1 % 0x100000000000000) as u64
+}
+
+pub fn verdict(verdict: Verdict) -> u64
+    ensures { λ r. ⌜ r ≡ by.packed (told.told told.intake verdict) ⌝ }
+{
+    match verdict {
+        Verdict::More => 0,
+        Verdict::Accepted {
+            level,
+            columns,
+            posts,
+        } => three(level, columns, posts),
+        Verdict::Refused(why) => refusal(why),
+    }
+}
+
+pub fn reading(reading: Reading) -> u64
+    ensures { λ r. ⌜ r ≡ by.packed (told.told told.post reading) ⌝ }
+{
+    match reading {
+        Reading::Height(metres) => three(0, 0, bits(metres)),
+        Reading::Void => three(0, 0, bits(VOID)),
+        Reading::Refused(why) => refusal(why),
+    }
+}
+
+pub fn located(located: Located) -> u64
+    ensures { λ r. ⌜ r ≡ by.packed (told.told told.position located) ⌝ }
+{
+    match located {
+        Located::Height {
+            column,
+            post,
+            metres,
+        } => three(column, post, bits(metres)),
+        Located::Void { column, post } => three(column, post, bits(VOID)),
+        Located::Refused(why) => refusal(why),
+    }
+}
+
+pub fn outcome(outcome: Outcome) -> u64
+    ensures { λ r. ⌜ r ≡ by.packed (told.told told.act outcome) ⌝ }
+{
+    match outcome {
+        Outcome::Done => 0,
+        Outcome::Refused(why) => refusal(why),
+    }
+}
