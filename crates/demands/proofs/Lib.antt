@@ -3,3 +3,4 @@ pub mod Examples
 pub mod WrittenCells
 pub mod EditedCells
 pub mod PlacesFit
+pub mod Settled

@@ -1,0 +1,79 @@
+-- D4: any two results that an entry point's own promise allows are equal: the answer, and each byte that it was lent.
+use mathlib.Core.Path.{_≡_, sym, ap, _∙_}
+use contract.Lifetimes as L
+use denote.Ref.{now}
+use borrow.Fn.Kinds as K
+use Rattle.answers.specs.Told.{intake, post, position, act}
+use Rattle.answers.specs.declared.Verdict.{Verdict}
+use Rattle.answers.proofs.Injective.{told-injective}
+use Rattle.headers.proofs.judge.judge.Reads as judge
+use Rattle.headers.proofs.judge.judge.Kinds as judge-kinds
+use Rattle.describing.proofs.describe.describe.Reads as describe
+use Rattle.describing.proofs.describe.describe.Kinds as describe-kinds
+use Rattle.describing.proofs.items.bad_item.Reads as bad-item
+use Rattle.describing.proofs.items.bad_item.Kinds as bad-item-kinds
+use Rattle.reading.proofs.intake.intake.Reads as taking
+use Rattle.reading.proofs.intake.intake.Kinds as taking-kinds
+use Rattle.reading.proofs.lookup.look_up.Reads as looking
+use Rattle.reading.proofs.lookup.look_up.Kinds as looking-kinds
+use Rattle.locating.proofs.position.locate.Reads as locating
+use Rattle.locating.proofs.position.locate.Kinds as locating-kinds
+use Rattle.stepping.specs.Steps.{after}
+use Rattle.stepping.proofs.steps.Steps.new.Reads as new
+use Rattle.stepping.proofs.steps.Steps.new.Kinds as new-kinds
+use Rattle.stepping.proofs.steps.Steps.step.Reads as step
+use Rattle.stepping.proofs.steps.Steps.step.Kinds as step-kinds
+use Rattle.stepping.proofs.steps.Steps.wanted.Reads as wanted
+use Rattle.stepping.proofs.steps.Steps.wanted.Kinds as wanted-kinds
+use Rattle.writing.proofs.cell.write.Reads as write-cell
+use Rattle.writing.proofs.cell.write.Kinds as write-cell-kinds
+use Rattle.writing.proofs.column.write.Reads as write-column
+use Rattle.writing.proofs.column.write.Kinds as write-column-kinds
+use Rattle.editing.proofs.edit.edit.Reads as editing
+use Rattle.editing.proofs.edit.edit.Kinds as editing-kinds
+
+-- headers, judged and described, and the items of a description
+pub judge-settled : (κs : L.Lfts 1) (a : K.Dens κs judge-kinds.ps) (r r' : _) (s s' : _) → judge.Post κs a r s → judge.Post κs a r' s' → r ≡ r'
+judge-settled κs a r r' s s' p q = p ∙ sym q
+
+pub describe-settled : (κs : L.Lfts 1) (a : K.Dens κs describe-kinds.ps) (r r' : _) (s s' : _) → describe.Post κs a r s → describe.Post κs a r' s' → r ≡ r'
+describe-settled κs a r r' s s' p q = p ∙ sym q
+
+pub items-settled : (κs : L.Lfts 0) (a : K.Dens κs bad-item-kinds.ps) (r r' : _) (s s' : _) → bad-item.Post κs a r s → bad-item.Post κs a r' s' → r ≡ r'
+items-settled κs a r r' s s' p q = p ∙ sym q
+
+-- intake and the lookups: what is told decides the answer
+pub intake-settled : (κs : L.Lfts 1) (a : K.Dens κs taking-kinds.ps) (r r' : _) (s s' : _) → taking.Post κs a r s → taking.Post κs a r' s' → r ≡ r'
+intake-settled κs a r r' s s' p q = told-injective intake r r' (p ∙ sym q)
+
+pub post-settled : (κs : L.Lfts 1) (a : K.Dens κs looking-kinds.ps) (r r' : _) (s s' : _) → looking.Post κs a r s → looking.Post κs a r' s' → r ≡ r'
+post-settled κs a r r' s s' p q = told-injective post r r' (p ∙ sym q)
+
+pub position-settled : (κs : L.Lfts 1) (a : K.Dens κs locating-kinds.ps) (r r' : _) (s s' : _) → locating.Post κs a r s → locating.Post κs a r' s' → r ≡ r'
+position-settled κs a r r' s s' p q = told-injective position r r' (p ∙ sym q)
+
+-- stepwise intake: the answer decides the state
+pub new-settled : (κs : L.Lfts 0) (a : K.Dens κs new-kinds.ps) (r r' : _) (s s' : _) → new.Post κs a r s → new.Post κs a r' s' → r ≡ r'
+new-settled κs a r r' s s' p q = λ k. record { phase = (p ∙ sym q) k }
+
+pub wanted-settled : (κs : L.Lfts 0) (a : K.Dens κs wanted-kinds.ps) (r r' : _) (s s' : _) → wanted.Post κs a r s → wanted.Post κs a r' s' → r ≡ r'
+wanted-settled κs a r r' s s' p q = p .0 ∙ sym (q .0)
+
+pub step-settled : (κs : L.Lfts 1) (a : K.Dens κs step-kinds.ps) (r r' : _) (s s' : _) → step.Post κs a r s → step.Post κs a r' s' → r ≡ r'
+step-settled κs a r r' s s' p q =
+    let same : r .answer ≡ r' .answer = told-injective intake (r .answer) (r' .answer) (p .said ∙ sym (q .said)) in
+    let state : r .steps .phase ≡ r' .steps .phase = p .state ∙ ap (λ (v : Verdict). after (a .0 .phase) (now (a .1 .0)) v) same ∙ sym (q .state) in
+    λ k. record { steps = record { phase = state k }; answer = same k }
+
+-- the writers and the edit: the answer, and every byte of what was lent
+pub write-settled : (κs : L.Lfts 2) (a : K.Dens κs write-cell-kinds.ps) (r r' : _) (s s' : _) → write-cell.Post κs a r s → write-cell.Post κs a r' s'
+    → (r ≡ r') × (now (s .0) ≡ now (s' .0))
+write-settled κs a r r' s s' p q = (told-injective act r r' (p .0 ∙ sym (q .0)), p .1 ∙ sym (q .1))
+
+pub write-column-settled : (κs : L.Lfts 2) (a : K.Dens κs write-column-kinds.ps) (r r' : _) (s s' : _)
+    → write-column.Post κs a r s → write-column.Post κs a r' s' → (r ≡ r') × (now (s .0) ≡ now (s' .0))
+write-column-settled κs a r r' s s' p q = (told-injective act r r' (p .0 ∙ sym (q .0)), p .1 ∙ sym (q .1))
+
+pub edit-settled : (κs : L.Lfts 1) (a : K.Dens κs editing-kinds.ps) (r r' : _) (s s' : _) → editing.Post κs a r s → editing.Post κs a r' s'
+    → (r ≡ r') × (now (s .0) ≡ now (s' .0))
+edit-settled κs a r r' s s' p q = (told-injective act r r' (p .0 ∙ sym (q .0)), p .1 ∙ sym (q .1))
