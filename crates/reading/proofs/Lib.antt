@@ -2,6 +2,8 @@
 pub mod Turns
 pub mod EveryColumn
 pub mod CellExactly
+pub mod PassedOver
+pub mod IntakeExactly
 pub mod OneByte
 pub mod PostReached
 pub mod ReachedExactly

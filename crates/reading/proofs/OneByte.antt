@@ -29,31 +29,8 @@ use Rattle.columns.proofs.Exactly.{good-if}
 use Rattle.reading.specs.Cell.{startOf, columnAt, Cell}
 use Rattle.reading.specs.Intake.{orRest, judgeNext, ended, columnsFrom, takenBy, taken}
 use Rattle.reading.proofs.EveryColumn.{GoodAt}
+use Rattle.reading.proofs.PassedOver.{skip-good, turn-here}
 use Rattle.reading.proofs.CellExactly.{column-whole}
-
--- good columns are passed over
-skip-good : (s : List ℕ) (g : Grid) (voids : Bool) (d i n : ℕ) → ((x : ℕ) → i ≤ x → x < i + d → GoodAt s g voids x)
-    → columnsFrom s g voids i (d + n) ≡ columnsFrom s g voids (i + d) n
-unfolding scan judgeNext
-skip-good s g voids zero i n f =
-    let a : 0 + n ≡ n = omega arith in
-    let b : i + 0 ≡ i = omega arith in
-    rw (a, b)
-skip-good s g voids (suc d) i n f =
-    let here = f i (omega arith) (omega arith) in
-    let a : suc d + n ≡ suc (d + n) = omega arith in
-    let b : i + suc d ≡ i + 1 + d = omega arith in
-    ap (columnsFrom s g voids i) a
-    ∙ simp (le-leb _ _ (here .0), good-if (columnAt s g i) i (g .posts) voids (startOf g i) (here .1))
-    (skip-good s g voids d (i + 1) n (λ x lo hi. f x (omega arith) (omega arith)) ∙ ap (λ (m : ℕ). columnsFrom s g voids m n) (sym b))
-
--- the turn of a column that is there whole
-turn-here : (s : List ℕ) (g : Grid) (voids : Bool) (k : ℕ) → k < g .columns → startOf g k + g .bytes .column ≤ length s
-    → columnsFrom s g voids k (g .columns - k)
-    ≡ orRest (judgedColumn (columnAt s g k) k (g .posts) voids (startOf g k)) (columnsFrom s g voids (k + 1) (g .columns - (k + 1)))
-unfolding judgeNext
-turn-here s g voids k h u =
-    scan-step (judgeNext s g voids) (ended (length s) g) k (g .columns) h ∙ rw (le-leb (startOf g k + g .bytes .column) (length s) u)
 
 -- a refusal inside a part of the file
 abbrev pub RefusedAt : ℕ → ℕ → Told → Type 0
