@@ -1,0 +1,165 @@
+/* dted.h - DTED elevation cells of levels 0, 1 and 2: judged, read, written, and corrected post by post.
+ *
+ * Every call takes any bytes and any numbers, relies on no earlier call, and returns. A call that is refused changes no
+ * byte that it was lent. Nothing is allocated, no file is read, and nothing is kept between calls.
+ *
+ * LENT BYTES. Bytes are lent as a pointer and a length. Where the length is 0 the pointer may be null. `items` is a fixed
+ * array of DTED_ITEMS numbers and must not be null. The pieces of memory that one call is lent must not overlap. Calls may
+ * run at the same time on any threads, as long as none writes what another is lent: one cell must not be edited by two
+ * threads at once, nor read while it is edited.
+ *
+ * ANSWERS. A call answers one 64-bit number: the refusal's number in the top 8 bits, 0 where the call was not refused, and
+ * its place, or the call's value, in the low 56. The takers-apart below read them.
+ */
+#ifndef DTED_H
+#define DTED_H
+
+#include <stddef.h>
+#include <stdint.h>
+
+#ifdef __cplusplus
+extern "C" {
+#endif
+
+/* Refusals, and the place that each gives. */
+enum {
+    DTED_OK = 0,
+    DTED_SHORT = 1,       /* fewer than 3,428 bytes: the length */
+    DTED_FIELD = 2,       /* a header field breaks its rule: its offset */
+    DTED_CUT = 3,         /* a column is not there whole: its offset */
+    DTED_PREAMBLE = 4,    /* a preamble field is wrong: its offset */
+    DTED_CHECKSUM = 5,    /* a checksum differs: its offset */
+    DTED_WORD = 6,        /* a post word is not allowed: its offset */
+    DTED_SURPLUS = 7,     /* bytes after the last column: the cell length due */
+    DTED_OFF_GRID = 8,    /* an index or a position is off the grid: 0 */
+    DTED_ITEM = 9,        /* an item is out of its range: its number, from 1 */
+    DTED_GRID_LENGTH = 10, /* the grid's length differs: the number of posts due */
+    DTED_HEIGHT = 11,     /* a height or void is not allowed: its index in the grid; 0 for an edit */
+    DTED_ROOM = 12        /* the output is too short: the length due */
+};
+
+/* A post without a height, as heights are given and answered: -32767. */
+#define DTED_VOID (-32767)
+
+/* Bytes before the first column, before the first post of a column, and of the longest column and cell. */
+#define DTED_HEADER_BYTES 3428
+#define DTED_PREAMBLE_BYTES 8
+#define DTED_LONGEST_COLUMN 7214
+#define DTED_LONGEST_CELL 25981042
+
+/* Positions are in tenths of arc-seconds: so many to a degree. */
+#define DTED_DEGREE 36000
+
+/* The items of a description, by their place in an array: item number less one. */
+enum {
+    DTED_LEVEL = 0,               /* 0, 1 or 2 */
+    DTED_LATITUDE = 1,            /* of the south-west corner, whole degrees, -90 to 89 */
+    DTED_LONGITUDE = 2,           /* of the south-west corner, whole degrees, -180 to 179 */
+    DTED_SECURITY = 3,            /* 'S', 'C', 'U' or 'R' */
+    DTED_EDITION = 4,             /* 1 to 99 */
+    DTED_MATCH_VERSION = 5,       /* match or merge version, 'A' to 'Z' */
+    DTED_DATUM = 6,               /* DTED_MSL or DTED_E96 */
+    DTED_ACCURACY = 7,            /* of the UHL: 0 to 9,999 metres, or DTED_NOT_AVAILABLE; so the next four, of the ACC */
+    DTED_ABSOLUTE_HORIZONTAL = 8,
+    DTED_ABSOLUTE_VERTICAL = 9,
+    DTED_RELATIVE_HORIZONTAL = 10,
+    DTED_RELATIVE_VERTICAL = 11,
+    DTED_PARTIAL = 12,            /* 0 for a complete cell, 1 to 99 for one that may hold voids */
+    DTED_ITEMS = 13
+};
+
+#define DTED_MSL 0
+#define DTED_E96 1
+#define DTED_NOT_AVAILABLE (-1)
+
+/* ---- calls on a cell ---- */
+
+/* Judges a whole cell. Order: 1, 2, then column after column from the west 3, 4, 5, 6, then 7. Answers level, columns and
+ * posts to a column. */
+uint64_t dted_intake(const uint8_t *cell, size_t length);
+
+/* The description of a cell, from its headers alone. Order: 1, 2. Fills all of `items`, or none where it is refused. Answers
+ * 0. */
+uint64_t dted_describe(const uint8_t *cell, size_t length, int64_t items[DTED_ITEMS]);
+
+/* The height of one post; column 0 is the western one, post 0 the southern one. Order: 1, 2, 8, then 3, 4, 5, 6 for that
+ * column alone. Answers the height, or DTED_VOID. */
+uint64_t dted_post(const uint8_t *cell, size_t length, uint64_t column, uint64_t post);
+
+/* The post nearest a position, in tenths of arc-seconds, north and east positive, edges included; of two equally near the
+ * western or southern one. 6480000 and -6480000 are one meridian. Order as for dted_post. Answers column, post and height. */
+uint64_t dted_position(const uint8_t *cell, size_t length, int64_t latitude, int64_t longitude);
+
+/* Makes one post this height, or DTED_VOID. Order as for dted_post, then 11. It writes the two bytes of the post and the four
+ * of its column's checksum, and nothing else. Answers 0. */
+uint64_t dted_edit(uint8_t *cell, size_t length, uint64_t column, uint64_t post, int64_t height);
+
+/* ---- writers ---- */
+
+/* The columns of a cell, and the posts to a column, from its level and origin latitude. Order: 9 (item 1, then 2). Answers as
+ * dted_intake does. dted_cell_length makes a length of the answer. */
+uint64_t dted_grid(uint64_t level, int64_t latitude);
+
+/* Writes the cell of `items` and of a grid at the front of `out`; bytes past the cell stay. The grid is 16-bit two's complement
+ * heights, high byte first, column after column from the west and each from the south: `bytes` is its length in bytes. Order: 9
+ * (lowest item), 10 (also where `bytes` is odd), 11 (lowest index), 12. Answers 0; the cell's length is that of dted_grid's answer
+ * for its level and latitude. */
+uint64_t dted_write(uint8_t *out, size_t room, const int64_t items[DTED_ITEMS], const uint8_t *grid, size_t bytes);
+
+/* Writes one column from a level, its number and its posts, voids allowed, at the front of `out`; bytes past it stay. Posts as in
+ * a grid. Order: 9 (item 1), 8 (a number not below the level's columns at the equator), 10, 11, 12. Answers 0. */
+uint64_t dted_write_column(uint8_t *out, size_t room, uint64_t level, uint64_t number, const uint8_t *posts, size_t bytes);
+
+#ifdef __cplusplus
+}
+#endif
+
+/* ---- answers, taken apart ---- */
+
+/* The refusal's number, DTED_OK where there is none. */
+static inline unsigned dted_number(uint64_t answer) { return (unsigned)(answer >> 56); }
+
+/* The place of a refusal. */
+static inline uint64_t dted_place(uint64_t answer) { return answer & UINT64_C(0xFFFFFFFFFFFFFF); }
+
+/* What dted_intake and dted_grid answer. */
+static inline unsigned dted_level(uint64_t answer) { return (unsigned)(answer >> 32 & 0xFFFF); }
+static inline unsigned dted_columns(uint64_t answer) { return (unsigned)(answer >> 16 & 0xFFFF); }
+static inline unsigned dted_posts(uint64_t answer) { return (unsigned)(answer & 0xFFFF); }
+
+/* The bytes of a column and of a whole cell, of such an answer. */
+static inline size_t dted_column_length(uint64_t answer) { return 12 + 2 * (size_t)dted_posts(answer); }
+static inline size_t dted_cell_length(uint64_t answer) {
+    return DTED_HEADER_BYTES + (size_t)dted_columns(answer) * dted_column_length(answer);
+}
+
+/* What dted_post and dted_position answer: metres, or DTED_VOID; DTED_VOID also for an answer that is a refusal. */
+static inline int dted_height(uint64_t answer) {
+    int word = (int)(answer & 0xFFFF);
+    if (dted_number(answer) != DTED_OK)
+        return DTED_VOID;
+    return word < 0x8000 ? word : word - 0x10000;
+}
+
+/* And of dted_position, the post's column and number. */
+static inline unsigned dted_position_column(uint64_t answer) { return (unsigned)(answer >> 32 & 0xFFFF); }
+static inline unsigned dted_position_post(uint64_t answer) { return (unsigned)(answer >> 16 & 0xFFFF); }
+
+/* ---- words and heights in bytes ---- */
+
+/* The height of the post word at `word`, or DTED_VOID: for reading every post of a cell that dted_intake has accepted. Post p of
+ * column c stands at DTED_HEADER_BYTES + c * dted_column_length(answer) + DTED_PREAMBLE_BYTES + 2 * p. */
+static inline int dted_word_height(const uint8_t *word) {
+    int magnitude = (word[0] & 0x7F) << 8 | word[1];
+    if (word[0] < 0x80)
+        return magnitude;
+    return magnitude == 0x7FFF ? DTED_VOID : -magnitude;
+}
+
+/* A height or DTED_VOID as the two bytes that a grid has for it. */
+static inline void dted_put_height(uint8_t *bytes, int height) {
+    bytes[0] = (uint8_t)((unsigned)height >> 8 & 0xFF);
+    bytes[1] = (uint8_t)((unsigned)height & 0xFF);
+}
+
+#endif
