@@ -12,10 +12,10 @@
 /* Exit statuses. */
 enum { DONE = 0, REFUSED = 1, TROUBLE = 2 };
 
-/* The bytes of a file, for the caller to free; null, with a line on standard error, where it cannot be read. No cell is longer
- * than one of level 2 at the equator: with one byte more, a file that goes on is told from one that ends there. */
+/* The bytes of a file, for the caller to free; null, with a line on standard error, where it cannot be read. With one byte more
+ * than the longest cell has, a file that goes on is told from one that ends there. */
 static inline uint8_t *read_file(const char *name, size_t *length) {
-    size_t most = dted_cell_length(dted_grid(2, 0)) + 1;
+    size_t most = DTED_LONGEST_CELL + 1;
     uint8_t *bytes = malloc(most);
     FILE *file = bytes ? fopen(name, "rb") : NULL;
     int good = file != NULL;

@@ -17,7 +17,7 @@ static void print_items(const int64_t *items) {
     };
     for (int i = 0; i < DTED_ITEMS; i++) {
         printf("  %-20s ", names[i]);
-        if (i == DTED_SECURITY || i == DTED_VERSION)
+        if (i == DTED_SECURITY || i == DTED_MATCH_VERSION)
             printf("%c\n", (int)items[i]);
         else if (i == DTED_DATUM)
             printf("%s\n", items[i] == DTED_E96 ? "E96" : "MSL");
@@ -43,7 +43,7 @@ static int print_post(const uint8_t *cell, size_t length, uint64_t column, uint6
 
 /* The post nearest the middle of the cell, found by its position in tenths of arc-seconds. */
 static int print_middle(const uint8_t *cell, size_t length, const int64_t *items) {
-    int64_t latitude = items[DTED_LATITUDE] * 36000 + 18000, longitude = items[DTED_LONGITUDE] * 36000 + 18000;
+    int64_t latitude = items[DTED_LATITUDE] * DTED_DEGREE + DTED_DEGREE / 2, longitude = items[DTED_LONGITUDE] * DTED_DEGREE + DTED_DEGREE / 2;
     uint64_t answer = dted_position(cell, length, latitude, longitude);
     if (dted_number(answer) != DTED_OK)
         return refused("position", answer);

@@ -16,13 +16,11 @@ struct map {
     double east, north;
 };
 
-/* The height of a post, or DTED_VOID. The words of an accepted cell may be read where they stand, a sign and a magnitude; void,
- * all bits set, reads as DTED_VOID. dted_post would judge the column again for each post. */
+/* The height of a post, or DTED_VOID. The words of an accepted cell may be read where they stand; dted_post would judge the column
+ * again for each post. */
 static int height(const struct map *map, size_t column, size_t post) {
     const uint8_t *first = map->cell + DTED_HEADER_BYTES + column * dted_column_length(map->grid) + DTED_PREAMBLE_BYTES;
-    const uint8_t *word = first + 2 * post;
-    int magnitude = (word[0] & 0x7F) << 8 | word[1];
-    return word[0] & 0x80 ? -magnitude : magnitude;
+    return dted_word_height(first + 2 * post);
 }
 
 /* The rise from one post to another, `apart` metres on; none where a void ends it. */

@@ -6,7 +6,7 @@
  */
 #include "files.h"
 
-enum { DEGREE = 36000, ONE = 1024 };
+enum { DEGREE = DTED_DEGREE, ONE = 1024 };
 
 /* What a corner of a lattice gives to a point `east` and `north` of it, in parts of ONE: each corner has a slope of its own. */
 static int64_t corner(int64_t x, int64_t y, int64_t side, int64_t east, int64_t north) {
@@ -56,9 +56,8 @@ static uint8_t *make_grid(uint64_t grid, size_t *bytes) {
     for (size_t column = 0; heights && column < columns; column++)
         for (size_t post = 0; post < posts; post++) {
             size_t x = column * DEGREE / (columns - 1), y = post * DEGREE / (posts - 1);
-            uint16_t word = (uint16_t)formula((int64_t)x, (int64_t)y);
-            *next++ = (uint8_t)(word >> 8);
-            *next++ = (uint8_t)word;
+            dted_put_height(next, (int)formula((int64_t)x, (int64_t)y));
+            next += 2;
         }
     return heights;
 }
@@ -90,7 +89,7 @@ int main(int count, char **arguments) {
         [DTED_LONGITUDE] = 7,
         [DTED_SECURITY] = 'U',
         [DTED_EDITION] = 1,
-        [DTED_VERSION] = 'A',
+        [DTED_MATCH_VERSION] = 'A',
         [DTED_DATUM] = DTED_E96,
         [DTED_ACCURACY] = DTED_NOT_AVAILABLE,
         [DTED_ABSOLUTE_HORIZONTAL] = DTED_NOT_AVAILABLE,
