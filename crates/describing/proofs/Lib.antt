@@ -12,3 +12,4 @@ pub mod DueBack
 pub mod WrittenHolds
 pub mod RoundTrip
 pub mod WrittenGood
+pub mod ReadRanged

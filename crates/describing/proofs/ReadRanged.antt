@@ -1,0 +1,61 @@
+-- What good headers say is in range: a description that was read may be written.
+use Prim.Native.Nat.{ℕ, _<_, _≤_}
+use native.Mathlib.Omega.{arith}
+use mathlib.Core.Path.{_≡_, refl, sym, ap, _∙_}
+use mathlib.Core.Bool.{Bool, true, false}
+use mathlib.Core.List.{List}
+use lib.Dec.{leb, ltb, lit<}
+use lib.ListN.{getD, take, drop}
+use borrow.Author.Tests.{lt-ltb, le-leb}
+use Rattle.octets.specs.Choice.{pick, both}
+use Rattle.octets.specs.Digits.{digitsAt, decimalAt}
+use Rattle.octets.specs.Texts.{ascii, has}
+use Rattle.octets.specs.Tests.{every}
+use Rattle.octets.proofs.ChoiceLaws.{both-true, by-test}
+use Rattle.octets.proofs.DigitLaws.{decimal-below}
+use Rattle.octets.proofs.PartLaws.{byte-part, decimal-part}
+use Rattle.headers.specs.Judged.{factsIn, Follows}
+use Rattle.headers.specs.Angles.{northward, eastward}
+use Rattle.headers.specs.Due.{levelAt, originAt, dueIn}
+use Rattle.headers.specs.Rules.{isLetter, isVersion, holds}
+use Rattle.headers.proofs.Exactly.{follows-good}
+use Rattle.headers.proofs.FirstFour.{good-facts, level-below}
+use Rattle.describing.specs.Items.{accuracyRanged, itemTests, inRange}
+use Rattle.describing.specs.Described.{accuracyAt, itemsIn}
+use Rattle.describing.specs.declared.Accuracy.{Accuracy}
+use Rattle.describing.specs.declared.Accuracy.the-variants.{Metres, Unknown}
+
+-- four digits are at most 9,999 metres
+accuracy-ranged : (s : List ℕ) (at : ℕ) → accuracyRanged (accuracyAt s at) ≡ true
+unfolding accuracyAt
+accuracy-ranged s at =
+    by-test (digitsAt s at 4)
+    (λ e. rw e (le-leb (decimalAt s at 4) 9999 (omega (arith, decimal-below s at 4))))
+    (λ e. rw e)
+
+module _ (s : List ℕ) (follows : Follows s) where
+  security-ranged : isLetter (getD s 32 0) ≡ true
+  unfolding holds
+  security-ranged =
+      let t = take 3 (drop 32 s) in
+      rw (sym (byte-part s 32 3 0 (lit< tt))) (both-true (isLetter (getD t 0 0)) (has t 1 (ascii "  ")) (follows .1 6 (lit< tt)) .0)
+
+  edition-ranged : both (leb 1 (decimalAt s 167 2)) (leb (decimalAt s 167 2) 99) ≡ true
+  unfolding holds
+  edition-ranged =
+      let t = take 2 (drop 167 s) in
+      let low = both-true (digitsAt t 0 2) (leb 1 (decimalAt t 0 2)) (follows .1 13 (lit< tt)) .1 in
+      rw (decimal-part s 167 2, low) (le-leb (decimalAt t 0 2) 99 (omega (arith, decimal-below t 0 2)))
+
+  version-ranged : isVersion (getD s 169 0) ≡ true
+  unfolding holds
+  version-ranged = rw (sym (byte-part s 169 1 0 (lit< tt))) (follows .1 14 (lit< tt))
+
+  pub read-ranged : inRange (itemsIn s) ≡ true
+  unfolding itemTests itemsIn factsIn dueIn
+  read-ranged =
+      let f = good-facts s (factsIn s) (follows-good s follows) in
+      let latitude : ltb (originAt northward s 12) 180 ≡ true = lt-ltb _ 180 (f .latitude) in
+      let longitude : ltb (originAt eastward s 4) 360 ≡ true = lt-ltb _ 360 (f .longitude) in
+      let partial : leb (decimalAt s 369 2) 99 ≡ true = le-leb (decimalAt s 369 2) 99 (omega (arith, decimal-below s 369 2)) in
+      rw (lt-ltb (levelAt s) 3 (level-below s), latitude, longitude, security-ranged, edition-ranged, version-ranged, accuracy-ranged s 28, accuracy-ranged s 731, accuracy-ranged s 735, accuracy-ranged s 739, accuracy-ranged s 743, partial)
