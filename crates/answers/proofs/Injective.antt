@@ -1,7 +1,6 @@
 -- `told` is injective: what an answer tells gives the answer back, so a promise about what is told settles the answer.
 use Prim.Native.Nat.{ℕ}
 use mathlib.Core.Path.{_≡_, refl, sym, ap, _∙_}
-use lib.IntN.{ℤ}
 use mathlib.Core.List.{List, [], _∷_}
 use lib.ListN.{getD}
 use Rattle.answers.specs.Told.{Told, refused, more, accepted, height, void, heightAt, voidAt, done, numbered, numberTold, placeTold, Kind, intake, post, position, act, Answer, told}

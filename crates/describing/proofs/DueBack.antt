@@ -4,19 +4,18 @@ use native.Mathlib.Omega.{arith}
 use mathlib.Core.Path.{_≡_, refl, sym, ap, _∙_}
 use mathlib.Core.Bool.{Bool, true}
 use mathlib.Core.List.{List}
-use lib.Dec.{eqb, leb, lit<, lit≤, eqb→eq}
+use lib.Dec.{eqb, lit<, lit≤, eqb→eq}
 use lib.ListN.{getD, take, drop}
 use borrow.Author.Tests.{eqb-false}
 use Rattle.octets.specs.Choice.{pick}
 use Rattle.octets.specs.Digits.{digitsOf}
 use Rattle.octets.specs.Places.{places}
 use Rattle.octets.specs.Texts.{ascii, differ, has}
-use Rattle.octets.proofs.ChoiceLaws.{by-test}
 use Rattle.octets.proofs.TestLaws.{below}
 use Rattle.layout.specs.Levels.{latitudeInterval}
 use Rattle.layout.specs.Grid.{gridOf}
 use Rattle.headers.specs.Angles.{northward, eastward, form, degreesIn, letterIn, angleOf}
-use Rattle.headers.specs.Due.{originAt, levelAt, edgeOf, dueIn}
+use Rattle.headers.specs.Due.{originAt, levelAt, dueIn}
 use Rattle.describing.specs.Written.{dueFor, angleText, textFor, headersFor}
 use Rattle.describing.specs.Items.{inRange}
 use Rattle.describing.specs.declared.Description.{Description}
@@ -24,7 +23,6 @@ use Rattle.headers.specs.declared.angles.Axis.{Axis}
 use Rattle.octets.proofs.PartLaws.{byte-part, text-part}
 use Rattle.describing.proofs.AngleTexts.{letter-back, degrees-back, degrees-small, angle-back}
 use Rattle.describing.proofs.WrittenLength.{field-written}
-use Rattle.headers.proofs.NearEdges.{edge-below}
 use Rattle.describing.proofs.RangedItems.{ranged-items}
 
 -- the level that the four bytes of its field fix

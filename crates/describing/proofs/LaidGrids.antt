@@ -1,10 +1,7 @@
 -- A description in range has a grid: its level is one, and its near edge lies in a zone.
-use Prim.Native.Nat.{ℕ, _<_}
-use native.Mathlib.Omega.{arith}
+use Prim.Native.Nat.{ℕ}
 use mathlib.Core.Path.{_≡_, sym, ap, _∙_}
 use mathlib.Core.Bool.{Bool, true, false, false≢true}
-use borrow.Author.Tests.{le-leb, lt-leb}
-use Rattle.octets.proofs.ChoiceLaws.{by-order}
 use Rattle.layout.specs.Grid.{laid}
 use Rattle.layout.specs.declared.Grid.{Grid}
 use Rattle.layout.specs.declared.Laid.{Laid}

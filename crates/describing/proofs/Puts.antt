@@ -1,13 +1,11 @@
 -- Laws of parts put one after another over a whole field.
-use Prim.Native.Nat.{ℕ, suc, _+_, _<_, _≤_}
+use Prim.Native.Nat.{ℕ, suc, _+_, _≤_}
 use native.Mathlib.Omega.{arith}
-use mathlib.Core.Path.{_≡_, sym, ap, _∙_}
+use mathlib.Core.Path.{_≡_, ap, _∙_}
 use mathlib.Core.List.{List, [], _∷_, _++_}
-use lib.ListN.{length, set, length-append, length-set}
-use Rattle.octets.specs.Digits.{digitsOf}
+use lib.ListN.{length, set, length-append}
 use Rattle.octets.specs.Pastes.{pasted}
 use Rattle.octets.proofs.PasteLaws.{paste-paste, paste-snoc, paste-all, store}
-use Rattle.octets.proofs.DigitLaws.{length-digits}
 
 -- a part at the front and one straight after it
 module _ (l xs ys : List ℕ) (n : ℕ) (e : length xs ≡ n) where

@@ -1,16 +1,15 @@
 -- What good headers say is in range: a description that was read may be written.
-use Prim.Native.Nat.{ℕ, _<_, _≤_}
+use Prim.Native.Nat.{ℕ, _<_}
 use native.Mathlib.Omega.{arith}
-use mathlib.Core.Path.{_≡_, refl, sym, ap, _∙_}
-use mathlib.Core.Bool.{Bool, true, false}
+use mathlib.Core.Path.{_≡_, sym}
+use mathlib.Core.Bool.{true}
 use mathlib.Core.List.{List}
 use lib.Dec.{leb, ltb, lit<}
 use lib.ListN.{getD, take, drop}
 use borrow.Author.Tests.{lt-ltb, le-leb}
-use Rattle.octets.specs.Choice.{pick, both}
+use Rattle.octets.specs.Choice.{both}
 use Rattle.octets.specs.Digits.{digitsAt, decimalAt}
 use Rattle.octets.specs.Texts.{ascii, has}
-use Rattle.octets.specs.Tests.{every}
 use Rattle.octets.proofs.ChoiceLaws.{both-true, by-test}
 use Rattle.octets.proofs.DigitLaws.{decimal-below}
 use Rattle.octets.proofs.PartLaws.{byte-part, decimal-part}
@@ -22,8 +21,6 @@ use Rattle.headers.proofs.Exactly.{follows-good}
 use Rattle.headers.proofs.FirstFour.{good-facts, level-below}
 use Rattle.describing.specs.Items.{accuracyRanged, itemTests, inRange}
 use Rattle.describing.specs.Described.{accuracyAt, itemsIn}
-use Rattle.describing.specs.declared.Accuracy.{Accuracy}
-use Rattle.describing.specs.declared.Accuracy.the-variants.{Metres, Unknown}
 
 -- four digits are at most 9,999 metres
 accuracy-ranged : (s : List ℕ) (at : ℕ) → accuracyRanged (accuracyAt s at) ≡ true

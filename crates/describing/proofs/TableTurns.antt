@@ -1,19 +1,17 @@
 -- The writer's loops over the field table and the areas of zeros, one turn at a time.
-use Prim.Native.Nat.{ℕ, zero, suc, _+_, _-_, _<_, _≤_}
+use Prim.Native.Nat.{ℕ, _+_, _-_, _<_, _≤_}
 use native.Mathlib.Numerals.{add-one}
 use native.Mathlib.Omega.{arith}
-use mathlib.Core.Path.{_≡_, refl, sym, ap, _∙_}
+use mathlib.Core.Path.{_≡_, sym, ap, _∙_}
 use mathlib.Core.Bool.{Bool}
-use mathlib.Core.List.{List, [], _∷_}
-use lib.Dec.{T, leb, eqb, leb→le, eqb→eq}
+use mathlib.Core.List.{List}
+use lib.Dec.{leb, leb→le}
 use lib.ListN.{length, getD, drop, replicate, drop-of-length-le}
 use lib.Seq.{drop-cons}
 use borrow.Rule.Slice.PartMut.{putMid}
 use Rattle.octets.specs.Pastes.{pasted}
-use Rattle.octets.specs.Tests.{every, allBelow}
 use Rattle.octets.proofs.PasteLaws.{length-paste, part-back}
-use Rattle.octets.proofs.TestLaws.{each, below}
-use Rattle.headers.specs.Rules.{widthOf}
+use Rattle.octets.proofs.TestLaws.{below}
 use Rattle.fields.specs.Table.{fields, fieldAt}
 use Rattle.describing.specs.Written.{textFor, withFields, areas, withAreas}
 use Rattle.describing.specs.declared.Description.{Description}

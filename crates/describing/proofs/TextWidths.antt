@@ -2,9 +2,7 @@
 use Prim.Native.Nat.{ℕ, suc, _+_}
 use native.Mathlib.Omega.{arith}
 use mathlib.Core.Path.{_≡_, refl, ap}
-use mathlib.Core.List.{List}
 use lib.ListN.{length, length-append}
-use Rattle.octets.specs.Digits.{digitsOf}
 use Rattle.octets.proofs.DigitLaws.{length-digits}
 use Rattle.headers.specs.Angles.{Form, degreesOf}
 use Rattle.headers.specs.Rules.{numberOf, formOf, widthOf}
@@ -17,8 +15,6 @@ use Rattle.describing.specs.declared.Description.{Description}
 use Rattle.headers.specs.declared.angles.Axis.{Axis}
 use Rattle.fields.specs.declared.Kind.{Kind}
 use Rattle.fields.specs.declared.Kind.the-variants as kind
-use Rattle.fields.specs.declared.Text.{Text}
-use Rattle.fields.specs.declared.Text.the-variants as text
 
 pub length-angle : (f : Form) (a : Axis) (angle : ℕ) → length (angleText f a angle) ≡ suc (f .digits + length (f .zeros))
 unfolding angleText

@@ -1,7 +1,7 @@
 -- Headers written from a description in range are judged good, whatever follows them, and describe what they were written from.
 use Prim.Native.Nat.{ℕ, _+_, _≤_}
 use native.Mathlib.Omega.{arith}
-use mathlib.Core.Path.{_≡_, refl, sym, ap, _∙_}
+use mathlib.Core.Path.{_≡_, sym, ap, _∙_}
 use mathlib.Core.Bool.{true}
 use mathlib.Core.List.{List, _++_}
 use lib.ListN.{length, take, length-append}
@@ -12,7 +12,6 @@ use Rattle.headers.specs.Judged.{judged, factsIn}
 use Rattle.describing.specs.Described.{itemsIn, describedBy, described}
 use Rattle.describing.specs.Written.{dueFor, headersFor}
 use Rattle.describing.specs.declared.Description.{Description}
-use Rattle.headers.specs.declared.Judged.{Judged}
 use Rattle.headers.specs.declared.Judged.the-variants.{Good}
 use Rattle.describing.specs.declared.Described.the-variants.{As}
 use Rattle.describing.proofs.DueBack.{due-back}

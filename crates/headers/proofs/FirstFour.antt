@@ -6,11 +6,11 @@ use mathlib.Core.Bool.{Bool, true, false}
 use mathlib.Core.List.{List}
 use lib.Dec.{eqb, leb, ltb, lit<}
 use lib.ListN.{take, drop}
-use borrow.Author.Tests.{leb-true, ltb-true, le-leb, lt-leb, eqb-true, eqb-false, ne-eqb}
+use borrow.Author.Tests.{leb-true, ltb-true, eqb-true, eqb-false, ne-eqb}
 use Rattle.octets.specs.Choice.{pick, both, either}
 use Rattle.octets.specs.Texts.{ascii, has}
 use Rattle.octets.proofs.DigitLaws.{decimal-below}
-use Rattle.octets.proofs.ChoiceLaws.{both-true, by-test, by-order, clash}
+use Rattle.octets.proofs.ChoiceLaws.{both-true, by-test, clash}
 use Rattle.layout.specs.Grid.{gridOf, laid}
 use Rattle.layout.specs.declared.Laid.the-variants.{Out}
 use Rattle.layout.proofs.Ranges.{Ranged, ranged, laid-in}

@@ -1,14 +1,14 @@
 -- The rows of the field table: each lies within the headers, and is as wide as its kind is.
-use Prim.Native.Nat.{ℕ, zero, suc, _+_, _-_, _<_, _≤_}
+use Prim.Native.Nat.{ℕ, _+_, _-_, _<_, _≤_}
 use native.Mathlib.Nat.{add-sub-cancel-left}
 use native.Mathlib.Omega.{arith}
-use mathlib.Core.Path.{_≡_, refl, ap, _∙_}
+use mathlib.Core.Path.{_≡_, ap, _∙_}
 use mathlib.Core.Bool.{Bool}
 use mathlib.Core.List.{List, [], _∷_}
-use lib.Dec.{T, leb, eqb, leb→le, eqb→eq}
-use lib.ListN.{length, getD, take, drop, length-drop}
+use lib.Dec.{leb, eqb, leb→le, eqb→eq}
+use lib.ListN.{length, take, drop, length-drop}
 use lib.Seq.{length-take-le}
-use Rattle.octets.specs.Tests.{every, allBelow}
+use Rattle.octets.specs.Tests.{every}
 use Rattle.octets.proofs.TestLaws.{each, below}
 use Rattle.fields.specs.Table.{bytesIn, fieldAt}
 use Rattle.headers.specs.Rules.{widthOf, holds}

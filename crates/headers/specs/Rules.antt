@@ -4,7 +4,7 @@ use mathlib.Core.Bool.{Bool}
 use mathlib.Core.List.{List}
 use lib.ListN.{getD, length}
 use lib.Dec.{eqb, leb}
-use Rattle.octets.specs.Choice.{pick, both, either}
+use Rattle.octets.specs.Choice.{both, either}
 use Rattle.octets.specs.Digits.{digitsAt, decimalAt}
 use Rattle.octets.specs.Texts.{ascii, has}
 use Rattle.layout.specs.declared.Grid.{Grid}

@@ -2,7 +2,7 @@
 use Prim.Native.Nat.{ℕ, _+_, _-_, _*_, _/_, _%_, _≤_, _<_}
 use native.Mathlib.Nat.{add-mul, zero-mul, mul-le-mul-right, div-add-mod', mod-lt, mul-div-left, mul-mod-left}
 use native.Mathlib.Omega.{arith}
-use mathlib.Core.Path.{_≡_, refl, sym, _∙_}
+use mathlib.Core.Path.{_≡_}
 use borrow.Author.Tests.{lt-ltb, le-ltb}
 use Rattle.octets.proofs.ChoiceLaws.{by-order}
 use Rattle.locating.specs.Position.{nearest}

@@ -7,13 +7,12 @@ use mathlib.Core.List.{List}
 use lib.IntN.{ℤ, subℕ}
 use Rattle.answers.specs.Told.{Told, numbered, refused}
 use Rattle.answers.specs.declared.Refusal.{Refusal}
-use Rattle.layout.proofs.Ranges.{Ranged}
 use Rattle.headers.specs.Judged.{judged, factsIn, Follows}
 use Rattle.headers.specs.declared.Facts.{Facts}
 use Rattle.headers.specs.declared.Judged.{Judged}
 use Rattle.headers.specs.declared.Judged.the-variants.{Good, Refused}
 use Rattle.headers.proofs.Exactly.{follows-good}
-use Rattle.headers.proofs.FirstFour.{GoodFacts, good-facts}
+use Rattle.headers.proofs.FirstFour.{good-facts}
 use Rattle.reading.specs.Reach.{reachedIn, reachedUnder, reached}
 use Rattle.layout.specs.Levels.{degree}
 use Rattle.locating.specs.Position.{alongAxis, inCell, cornerAt, southWest, nearest, nearestColumn, nearestPost, latitudeOf, longitudeOf, readAt, locatedBy, locatedUnder, located}

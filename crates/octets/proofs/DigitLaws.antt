@@ -4,13 +4,13 @@ use native.Mathlib.Nat.{add-zero, pow-le-pow-right}
 use native.Mathlib.Numerals.{add-one}
 use native.Mathlib.Omega.{arith}
 use mathlib.Core.Path.{_≡_, refl, sym, ap, _∙_}
-use mathlib.Core.Bool.{Bool, true, false}
-use mathlib.Core.List.{List, [], _∷_, _++_, map, map-append}
+use mathlib.Core.Bool.{true, false}
+use mathlib.Core.List.{List, [], _∷_, map, map-append}
 use lib.Dec.{leb, lit<}
 use lib.ListN.{length, getD, set, take, drop, length-map, length-drop, List·getD-map}
 use lib.Seq.{getD-take, getD-drop, length-take-le, ext-getD}
 use borrow.Author.Tests.{leb-true, le-leb}
-use Rattle.octets.specs.Choice.{pick, both}
+use Rattle.octets.specs.Choice.{both}
 use Rattle.octets.specs.Places.{places, value}
 use Rattle.octets.specs.Digits.{isDigit, digitsAt, digitOf, decimalAt, digitsOf}
 use Rattle.octets.specs.Pastes.{pasted}

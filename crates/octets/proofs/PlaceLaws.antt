@@ -4,7 +4,7 @@ use native.Mathlib.Nat.{div-add-mod', div-lt-iff-lt-mul, mul-add-div-right, mul-
 use native.Mathlib.Omega.{arith}
 use mathlib.Core.Path.{_≡_, refl, sym, ap, _∙_}
 use mathlib.Core.List.{List, [], _∷_, _++_}
-use lib.ListN.{length, getD, take, drop, length-append, List·getD-append, List·getD-eq-default}
+use lib.ListN.{length, getD, take, length-append, List·getD-append, List·getD-eq-default}
 use lib.Seq.{getD-at, take-suc}
 use Rattle.octets.specs.Places.{places, value}
 use Rattle.octets.proofs.ChoiceLaws.{by-order}

@@ -1,5 +1,5 @@
 -- An answer as one number of 64 bits (rule B1): a refusal's number in the top 8 bits and its place in the other 56, or the values.
-use Prim.Native.Nat.{ℕ, _+_, _-_, _*_, _%_, _^_}
+use Prim.Native.Nat.{ℕ, _+_, _-_, _*_, _%_}
 use lib.IntN.{ℤ, pos, negsuc, negℤ}
 use Rattle.answers.specs.Told.{Told, refused, more, accepted, height, void, heightAt, voidAt, done}
 

@@ -1,6 +1,6 @@
 -- Heights in the writer's form: metres, and -32767 for void (rules P5 and P6).
 use Prim.Native.Nat.{ℕ, _+_, _%_}
-use mathlib.Core.Bool.{Bool, false}
+use mathlib.Core.Bool.{Bool}
 use lib.IntN.{ℤ, pos, negsuc, negℤ}
 use lib.Signed.{leZ}
 use Rattle.octets.specs.Choice.{pick, both}

@@ -2,28 +2,27 @@
 use Prim.Native.Nat.{ℕ, _+_, _*_, _<_, _≤_}
 use native.Mathlib.Nat.{add-mul, mul-le-mul-right}
 use native.Mathlib.Omega.{arith}
-use mathlib.Core.Path.{_≡_, refl, sym, ap, _∙_}
+use mathlib.Core.Path.{_≡_, refl, ap, _∙_}
 use mathlib.Core.Bool.{Bool, true, false}
 use mathlib.Core.List.{List}
 use lib.Dec.{eqb}
 use lib.ListN.{length}
 use borrow.Author.Tests.{eqb-true, eq-eqb}
 use Rattle.octets.specs.Choice.{pick}
-use Rattle.answers.specs.Told.{Told, accepted, refused, numbered}
+use Rattle.answers.specs.Told.{accepted, refused}
 use Rattle.layout.specs.declared.Grid.{Grid}
 use Rattle.layout.proofs.Ranges.{Ranged}
 use Rattle.posts.specs.Words.{postOf}
 use Rattle.posts.proofs.Readings.{Reads, reads}
 use Rattle.headers.specs.Judged.{judged, factsIn, voidsAllowed}
-use Rattle.headers.specs.declared.Facts.{Facts}
 use Rattle.headers.specs.declared.Judged.{Judged}
 use Rattle.headers.specs.declared.Judged.the-variants.{Good, Refused}
 use Rattle.headers.proofs.Exactly.{good-follows, follows-good}
-use Rattle.headers.proofs.FirstFour.{GoodFacts, good-facts}
-use Rattle.columns.specs.Column.{GoodColumn, wordIn}
+use Rattle.headers.proofs.FirstFour.{good-facts}
+use Rattle.columns.specs.Column.{wordIn}
 use Rattle.reading.specs.Cell.{startOf, columnAt, Cell}
-use Rattle.reading.specs.Intake.{ended, columnsFrom, takenBy, taken}
-use Rattle.reading.proofs.EveryColumn.{GoodAt, never-accepted, accepted-from, accepted-to}
+use Rattle.reading.specs.Intake.{ended, takenBy, taken}
+use Rattle.reading.proofs.EveryColumn.{never-accepted, accepted-from, accepted-to}
 
 -- what is answered of an accepted cell
 pub record Accepted (s : List ℕ) (l c p : ℕ) : Type 0 where

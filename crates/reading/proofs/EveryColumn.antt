@@ -1,14 +1,13 @@
 -- The columns of a cell are accepted exactly where each is there whole and good, and nothing follows the last.
 use Prim.Native.Nat.{ℕ, zero, suc, _+_, _*_, _≤_, _<_}
-use native.Mathlib.Nat.{mul-le-mul-right}
 use native.Mathlib.Omega.{arith}
-use mathlib.Core.Path.{_≡_, refl, sym, _∙_}
+use mathlib.Core.Path.{_≡_, refl, _∙_}
 use mathlib.Core.Bool.{Bool, true, false}
 use mathlib.Core.List.{List}
-use lib.Dec.{eqb, leb}
+use lib.Dec.{leb}
 use lib.ListN.{length, drop, length-drop}
 use lib.Seq.{length-take-le}
-use borrow.Author.Tests.{eqb-true, eq-eqb, leb-true, le-leb}
+use borrow.Author.Tests.{leb-true, le-leb}
 use Rattle.octets.specs.Choice.{pick}
 use Rattle.octets.specs.Scan.{scan}
 use Rattle.octets.proofs.ChoiceLaws.{by-order}
@@ -24,7 +23,6 @@ use Rattle.columns.specs.declared.Judged.the-variants.{Good, Refused}
 use Rattle.columns.proofs.Exactly.{good-only, good-if}
 use Rattle.reading.specs.Cell.{startOf, columnAt}
 use Rattle.reading.specs.Intake.{orRest, judgeNext, ended, columnsFrom}
-use Rattle.reading.proofs.Turns.{next-start}
 
 -- a refusal is no acceptance
 pub never-accepted : (r : Refusal) (l c p : ℕ) → numbered r ≡ accepted l c p → ⊥

@@ -1,6 +1,5 @@
 -- Lookup on an accepted cell, and that it hangs on the headers and one column alone (rules D2 and L2).
 use Prim.Native.Nat.{ℕ, _+_, _≤_, _<_}
-use native.Mathlib.Omega.{arith}
 use mathlib.Core.Path.{_≡_, refl, sym, ap, _∙_}
 use mathlib.Core.List.{List}
 use lib.ListN.{length, take}
@@ -20,7 +19,7 @@ use Rattle.reading.specs.Reach.{reachedIn, reachedUnder, reached}
 use Rattle.reading.specs.Lookup.{postReads, readingOf, lookedUp}
 use Rattle.reading.specs.declared.reach.Reached.{Reached}
 use Rattle.reading.proofs.CellExactly.{column-whole}
-use Rattle.reading.proofs.ReachedExactly.{OnGrid, endIn, Row, good, given}
+use Rattle.reading.proofs.ReachedExactly.{OnGrid, endIn, good, given}
 
 -- D2: every post of an accepted cell is what the word says that stands there
 pub post-found : (s : List ℕ) → Cell s → (c p : ℕ) → c < factsIn s .grid .columns → p < factsIn s .grid .posts

@@ -1,33 +1,25 @@
 -- D2: one byte of a column of an accepted cell replaced by another value is refused, at a place inside that column.
-use Prim.Native.Nat.{ℕ, zero, suc, _+_, _-_, _*_, _<_, _≤_}
+use Prim.Native.Nat.{ℕ, _+_, _-_, _*_, _<_, _≤_}
 use native.Mathlib.Nat.{add-mul, mul-le-mul-right}
 use native.Mathlib.Omega.{arith}
-use mathlib.Core.Path.{_≡_, refl, sym, ap, subst, _∙_}
-use mathlib.Core.Bool.{Bool}
+use mathlib.Core.Path.{_≡_, sym, ap, subst, _∙_}
 use mathlib.Core.List.{List}
 use lib.ListN.{length, getD, take, drop, set, length-set, length-drop}
-use lib.Seq.{take-set-le, take-set-lt, drop-set-lt, drop-set-add, getD-take, getD-drop, length-take-le}
-use borrow.Author.Tests.{le-leb}
-use Rattle.octets.specs.Choice.{pick}
-use Rattle.octets.specs.Scan.{scan}
-use Rattle.octets.proofs.ScanLaws.{scan-step}
-use Rattle.answers.specs.Told.{Told, refused, numbered, numberTold, placeTold}
+use lib.Seq.{take-set-le, take-set-lt, drop-set-add, getD-take, getD-drop, length-take-le}
+use Rattle.answers.specs.Told.{Told, refused, numberTold, placeTold}
 use Rattle.answers.proofs.Injective.{refusal-told}
 use Rattle.layout.specs.declared.Grid.{Grid}
-use Rattle.layout.proofs.Ranges.{Ranged}
 use Rattle.headers.specs.Judged.{judged, factsIn, voidsAllowed}
 use Rattle.headers.specs.declared.Judged.the-variants.{Good}
 use Rattle.headers.proofs.Exactly.{follows-good}
 use Rattle.headers.proofs.FirstFour.{good-facts}
 use Rattle.headers.proofs.SameHeaders.{same-headers}
-use Rattle.columns.specs.Column.{GoodColumn}
 use Rattle.columns.specs.Judged.{judgedColumn, RefusedIn}
 use Rattle.columns.specs.declared.Judged.{Judged}
 use Rattle.columns.specs.declared.Judged.the-variants as column
 use Rattle.columns.proofs.Damage.{one-byte}
-use Rattle.columns.proofs.Exactly.{good-if}
 use Rattle.reading.specs.Cell.{startOf, columnAt, Cell}
-use Rattle.reading.specs.Intake.{orRest, judgeNext, ended, columnsFrom, takenBy, taken}
+use Rattle.reading.specs.Intake.{orRest, columnsFrom, takenBy, taken}
 use Rattle.reading.proofs.EveryColumn.{GoodAt}
 use Rattle.reading.proofs.PassedOver.{skip-good, turn-here}
 use Rattle.reading.proofs.CellExactly.{column-whole}

@@ -2,14 +2,13 @@
 use Prim.Native.Nat.{ℕ, _+_, _-_, _*_, _≤_, _<_}
 use native.Mathlib.Nat.{add-mul, add-sub-cancel-left, mul-le-mul, le-of-lt}
 use native.Mathlib.Omega.{arith}
-use mathlib.Core.Path.{_≡_, refl, sym, ap, _∙_}
+use mathlib.Core.Path.{_≡_, _∙_}
 use mathlib.Core.Bool.{Bool}
 use mathlib.Core.List.{List}
 use lib.ListN.{length, take, drop}
-use lib.Seq.{length-take-le}
 use borrow.Author.Tests.{le-leb, lt-leb}
 use Rattle.octets.proofs.ScanLaws.{scan-step, scan-done}
-use Rattle.answers.specs.Told.{Told, refused}
+use Rattle.answers.specs.Told.{refused}
 use Rattle.layout.specs.declared.Grid.{Grid}
 use Rattle.columns.specs.Judged.{andThen, headOf, wordsFrom, judgedColumn}
 use Rattle.columns.specs.declared.Judged.{Judged}

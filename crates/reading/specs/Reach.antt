@@ -5,7 +5,6 @@ use lib.ListN.{length}
 use lib.Dec.{leb, ltb}
 use Rattle.octets.specs.Choice.{pick, both}
 use Rattle.answers.specs.declared.Refusal.the-variants.{Cut, OffGrid}
-use Rattle.layout.specs.declared.Grid.{Grid}
 use Rattle.headers.specs.Judged.{judged, voidsAllowed}
 use Rattle.headers.specs.declared.Facts.{Facts}
 use Rattle.headers.specs.declared.Judged.{Judged}

@@ -2,14 +2,12 @@
 use Prim.Native.Nat.{ℕ, _+_, _≤_, _<_}
 use native.Mathlib.Omega.{arith}
 use mathlib.Core.Path.{_≡_, refl, sym, ap, _∙_}
-use mathlib.Core.Bool.{Bool, true, false}
+use mathlib.Core.Bool.{Bool}
 use mathlib.Core.List.{List}
 use lib.Dec.{eqb}
 use lib.ListN.{length}
-use Rattle.octets.specs.Choice.{pick}
 use Rattle.octets.proofs.ChoiceLaws.{by-order, by-test}
-use Rattle.answers.specs.Told.{Told, told, intake, refused, more, accepted, numbered}
-use Rattle.answers.specs.declared.Refusal.{Refusal}
+use Rattle.answers.specs.Told.{told, intake, refused, more, accepted}
 use Rattle.answers.specs.declared.Verdict.{Verdict}
 use Rattle.answers.specs.declared.Verdict.the-variants as verdict
 use Rattle.layout.specs.Grid.{laid}

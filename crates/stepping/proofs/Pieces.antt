@@ -5,7 +5,7 @@ use mathlib.Core.Bool.{Bool}
 use mathlib.Core.List.{List}
 use lib.ListN.{length, take}
 use borrow.Author.Tests.{le-leb, lt-leb, lt-ltb, le-ltb}
-use Rattle.answers.specs.Told.{Told, refused, more}
+use Rattle.answers.specs.Told.{refused, more}
 use Rattle.layout.specs.declared.Grid.{Grid}
 use Rattle.columns.specs.Judged.{judgedColumn}
 use Rattle.columns.specs.declared.Judged.{Judged}

@@ -1,20 +1,18 @@
 -- Steps fed with the columns of a file, one after another, end with what intake says of the whole.
-use Prim.Native.Nat.{ℕ, zero, suc, _+_, _*_, _≤_, _<_}
+use Prim.Native.Nat.{ℕ, zero, suc, _+_, _≤_, _<_}
 use native.Mathlib.Omega.{arith}
 use mathlib.Core.Path.{_≡_, refl, sym, ap, subst, _∙_}
 use mathlib.Core.Bool.{Bool}
 use mathlib.Core.List.{List, [], _∷_}
 use lib.ListN.{length, take, drop, length-drop, length-take}
-use lib.Seq.{length-take-le, take-take, take-all}
+use lib.Seq.{length-take-le, take-all}
 use borrow.Author.Tests.{le-leb, lt-leb}
-use Rattle.octets.specs.Choice.{pick}
 use Rattle.octets.specs.Scan.{scan}
 use Rattle.octets.proofs.ChoiceLaws.{by-order}
 use Rattle.answers.specs.Told.{Told, told, intake, refused, more, numbered, numberTold, placeTold}
 use Rattle.answers.specs.declared.Verdict.{Verdict}
 use Rattle.answers.specs.declared.Verdict.the-variants as verdict
 use Rattle.answers.specs.declared.Refusal.{Refusal}
-use Rattle.answers.specs.declared.Refusal.the-variants as because
 use Rattle.answers.proofs.Injective.{told-injective, refusal-told}
 use Rattle.layout.specs.Grid.{laid}
 use Rattle.layout.specs.declared.Grid.{Grid}
@@ -25,10 +23,9 @@ use Rattle.columns.specs.declared.Judged.{Judged}
 use Rattle.columns.specs.declared.Judged.the-variants.{Good, Refused}
 use Rattle.reading.specs.Cell.{startOf, columnAt}
 use Rattle.reading.specs.Intake.{orRest, judgeNext, ended, columnsFrom}
-use Rattle.stepping.specs.Steps.{saidOf, saidOfLaid, saidOfColumn, after, Fed, firstPiece, laterPieces}
-use Rattle.stepping.specs.declared.steps.Due.{Due}
+use Rattle.stepping.specs.Steps.{saidOf, saidOfColumn, after, Fed, firstPiece, laterPieces}
 use Rattle.stepping.specs.declared.steps.Phase.{Phase}
-use Rattle.stepping.specs.declared.steps.Phase.the-variants.{Headers, Columns, Over}
+use Rattle.stepping.specs.declared.steps.Phase.the-variants.{Columns, Over}
 use Rattle.stepping.proofs.Pieces.{piece-past, piece-short, piece-judged}
 use Rattle.reading.proofs.Turns.{next-start}
 

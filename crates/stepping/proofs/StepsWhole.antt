@@ -1,12 +1,12 @@
 -- S6: fed with a file cut at its column edges, steps end with what intake says of the whole.
-use Prim.Native.Nat.{ℕ, _+_, _*_, _<_, _≤_}
+use Prim.Native.Nat.{ℕ}
 use native.Mathlib.Omega.{arith}
 use mathlib.Core.Path.{_≡_, refl, sym, ap, subst, _∙_}
 use mathlib.Core.List.{List, _∷_}
 use lib.ListN.{length, take}
 use lib.Seq.{take-all, take-take, length-take-le}
 use Rattle.octets.proofs.ChoiceLaws.{by-order}
-use Rattle.answers.specs.Told.{Told, told, intake, more, numbered}
+use Rattle.answers.specs.Told.{told, intake, numbered}
 use Rattle.answers.specs.declared.Verdict.{Verdict}
 use Rattle.answers.specs.declared.Verdict.the-variants as verdict
 use Rattle.answers.proofs.Injective.{told-injective}
@@ -20,14 +20,13 @@ use Rattle.headers.specs.declared.Facts.{Facts}
 use Rattle.headers.specs.declared.Judged.{Judged}
 use Rattle.headers.specs.declared.Judged.the-variants.{Good, Refused}
 use Rattle.headers.proofs.Exactly.{good-follows}
-use Rattle.headers.proofs.FirstFour.{GoodFacts, good-facts, level-below}
+use Rattle.headers.proofs.FirstFour.{good-facts, level-below}
 use Rattle.headers.proofs.NearEdges.{edge-below}
 use Rattle.headers.proofs.SameHeaders.{same-headers}
-use Rattle.reading.specs.Cell.{startOf}
-use Rattle.reading.specs.Intake.{columnsFrom, takenBy, taken}
-use Rattle.stepping.specs.Steps.{saidOf, saidOfHeaders, dueAfter, after, Fed, firstPiece, laterPieces}
+use Rattle.reading.specs.Intake.{takenBy, taken}
+use Rattle.stepping.specs.Steps.{saidOfHeaders, dueAfter, after, Fed, firstPiece, laterPieces}
 use Rattle.stepping.specs.declared.steps.Phase.{Phase}
-use Rattle.stepping.specs.declared.steps.Phase.the-variants.{Headers, Columns}
+use Rattle.stepping.specs.declared.steps.Phase.the-variants.{Headers}
 use Rattle.stepping.proofs.StepByStep.{settled, numbered-not-more, columns-fed}
 
 -- the first piece of a file is judged as the file is

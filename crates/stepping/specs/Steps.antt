@@ -20,7 +20,6 @@ use Rattle.headers.specs.declared.Judged.the-variants as headers
 use Rattle.columns.specs.Judged.{judgedColumn}
 use Rattle.reading.specs.Cell.{startOf, columnAt}
 use Rattle.reading.specs.Intake.{orRest, ended}
-use Rattle.stepping.specs.declared.steps.Due.{Due}
 use Rattle.stepping.specs.declared.steps.Phase.{Phase}
 use Rattle.stepping.specs.declared.steps.Phase.the-variants.{Headers, Columns, Over}
 

@@ -1,16 +1,16 @@
 -- The columns of a grid, one after the other: where each stands, how long they are, and one column more.
-use Prim.Native.Nat.{ℕ, zero, suc, _+_, _*_, _-_, _<_, _≤_}
+use Prim.Native.Nat.{ℕ, suc, _+_, _*_, _-_, _<_, _≤_}
 use native.Mathlib.Nat.{mul-le-mul-right}
 use native.Mathlib.Numerals.{add-one}
 use native.Mathlib.Omega.{arith}
-use mathlib.Core.Path.{_≡_, refl, sym, ap, _∙_}
+use mathlib.Core.Path.{_≡_, refl, ap, _∙_}
 use mathlib.Core.List.{List, [], _++_}
 use lib.IntN.{ℤ}
-use lib.ListN.{length, take, drop, length-append, length-drop}
+use lib.ListN.{length, take, drop, length-drop}
 use lib.Seq.{length-take-le}
 use borrow.Rule.Slice.PartMut.{putMid}
 use Rattle.octets.specs.Pastes.{pasted}
-use Rattle.octets.proofs.PasteLaws.{length-paste, paste-paste, part-back}
+use Rattle.octets.proofs.PasteLaws.{paste-paste, part-back}
 use Rattle.columns.specs.Column.{columnOf}
 use Rattle.columns.proofs.ColumnBytes.{length-column}
 use Rattle.writing.specs.Grid.{heightsOf, columnsWritten}

@@ -8,7 +8,6 @@ use lib.IntN.{ℤ, pos}
 use lib.ListN.{length, getD}
 use lib.Dec.{eqb}
 use borrow.Author.Tests.{le-leb, lt-leb, eqb-true, eqb-false, eq-eqb, ne-eqb}
-use Rattle.octets.specs.Choice.{pick}
 use Rattle.octets.proofs.ChoiceLaws.{by-test, by-order}
 use Rattle.posts.specs.Heights.{heightAllowed}
 use Rattle.answers.specs.declared.Refusal.the-variants.{GridLength, Height, Room}

@@ -1,15 +1,15 @@
 -- `judge`: what is left of the words answers as the whole column.
-use Prim.Native.Nat.{_+_, _-_, _*_, _≤_}
+use Prim.Native.Nat.{_-_, _≤_}
 use Rattle.columns.proofs.WordSearch.{word-on, word-stop}
 use Rattle.columns.proofs.judge.Statement.{statement}
 use Rattle.columns.proofs.judge.Tie as tie
 use Rattle.posts.specs.Words.{wordAllowed}
 use Rattle.columns.specs.Column.{wordIn}
-use Rattle.columns.specs.Judged.{andThen, wordsFrom, judgedColumn}
+use Rattle.columns.specs.Judged.{wordsFrom, judgedColumn}
 use Rattle.octets.proofs.ScanLaws.{scan-done}
 use borrow.Author.Needs.{needs}
 use borrow.Author.Tests.{not-true, not-false}
-use mathlib.Core.Path.{_≡_, sym, ap, _∙_}
+use mathlib.Core.Path.{_≡_, sym, _∙_}
 use native.Mathlib.Nat.{sub-zero}
 use native.Mathlib.Omega.{arith}
 

@@ -3,9 +3,8 @@ use Prim.Native.Nat.{_-_, _≤_}
 use Rattle.intake.proofs.fill.Statement.{statement}
 use Rattle.intake.proofs.fill.Tie as tie
 use borrow.Author.Needs.{needs}
-use lib.ListN.{length, length-drop}
-use lib.Seq.{length-take-le}
-use mathlib.Core.Path.{_≡_, refl, sym, _∙_}
+use lib.ListN.{length}
+use mathlib.Core.Path.{_≡_, refl}
 use native.Mathlib.Omega.{arith}
 
 abbrev Inv-loop : tie.InvT-loop

@@ -3,9 +3,9 @@ use Prim.Native.Nat.{_-_, _≤_}
 use Rattle.intake.proofs.main.Statement.{statement}
 use Rattle.intake.proofs.main.Tie as tie
 use borrow.Author.Needs.{needs}
-use lib.ListN.{length, length-replicate}
+use lib.ListN.{length}
 use lib.Seq.{length-take-le}
-use mathlib.Core.Path.{_≡_, refl, sym, _∙_}
+use mathlib.Core.Path.{_≡_, sym}
 use native.Mathlib.Omega.{arith}
 
 abbrev Inv-loop : tie.InvT-loop

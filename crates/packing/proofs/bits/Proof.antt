@@ -1,6 +1,6 @@
 -- `bits`: what the machine makes of 16 bits is the definition's.
 use native.Mathlib.Omega.{arith}
-use mathlib.Core.Path.{_≡_, refl, ap, _∙_}
+use mathlib.Core.Path.{_≡_}
 use lib.IntN.{ℤ, pos, negsuc}
 use Prim.Native.Nat.{ℕ, _-_, _<_}
 use mir.Syntax.{w16}

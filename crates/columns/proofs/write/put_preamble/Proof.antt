@@ -8,7 +8,7 @@ use Rattle.octets.specs.Pastes.{pasted}
 use borrow.Author.Needs.{needs}
 use lib.ListN.{length, length-set}
 use mathlib.Core.List.{List}
-use mathlib.Core.Path.{_≡_, sym, ap, _∙_}
+use mathlib.Core.Path.{_≡_, ap, _∙_}
 use native.Mathlib.Omega.{arith}
 
 first-long : (c : tie.After-put24) → length (c .put24 .last .0) ≡ length (c .before .before .before .args .out .now)

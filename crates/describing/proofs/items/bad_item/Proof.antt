@@ -4,14 +4,13 @@ use Rattle.describing.proofs.RangedItems.{failed-on, failed-here, faile
 use Rattle.describing.proofs.items.bad_item.Statement.{statement}
 use Rattle.describing.proofs.items.bad_item.Tie as tie
 use Rattle.describing.specs.Items.{firstFailed}
-use Rattle.describing.specs.Items.{itemTests, firstFailed}
+use Rattle.describing.specs.Items.{itemTests}
 use borrow.Author.Needs.{needs}
 use borrow.Author.Tests.{not-true, not-false}
 use lib.ListN.{drop}
-use lib.ListN.{length, drop}
+use lib.ListN.{length}
 use mathlib.Core.Path.{_≡_, refl, sym, ap, _∙_}
 use mathlib.Core.Bool.{false}
-use mathlib.Core.Path.{_≡_}
 use native.Mathlib.Omega.{arith}
 
 abbrev Inv-loop : tie.InvT-loop

@@ -1,6 +1,6 @@
 -- `put_areas`: the areas that are left give what all give.
 use Prim.Native.Nat.{_-_, _≤_}
-use Prim.Native.Nat.{ℕ, _+_, _-_, _≤_}
+use Prim.Native.Nat.{ℕ, _+_}
 use Rattle.describing.proofs.TableTurns.{area-fits, areas-on, areas-done}
 use Rattle.describing.proofs.write.put_areas.Statement.{statement}
 use Rattle.describing.proofs.write.put_areas.Tie as tie
@@ -9,7 +9,6 @@ use borrow.Author.Needs.{needs}
 use lib.ListN.{length, drop}
 use mathlib.Core.List.{List}
 use mathlib.Core.Path.{_≡_, refl, sym, ap, _∙_}
-use mathlib.Core.Path.{_≡_}
 use native.Mathlib.Omega.{arith}
 
 abbrev Inv-loop : tie.InvT-loop

@@ -1,6 +1,5 @@
 -- `put_fields`: the fields that are left give what all give.
 use Prim.Native.Nat.{_+_, _-_, _≤_}
-use Prim.Native.Nat.{_-_, _≤_}
 use Rattle.describing.proofs.TableTurns.{fields-turn, fields-done}
 use Rattle.headers.proofs.TableRows.{Row, row}
 use Rattle.describing.proofs.write.put_fields.Statement.{statement}
@@ -11,7 +10,6 @@ use Rattle.octets.proofs.PasteLaws.{length-part}
 use borrow.Author.Needs.{needs}
 use lib.ListN.{length, drop}
 use mathlib.Core.Path.{_≡_, refl, sym, _∙_}
-use mathlib.Core.Path.{_≡_}
 use native.Mathlib.Omega.{arith}
 
 abbrev Inv-loop : tie.InvT-loop

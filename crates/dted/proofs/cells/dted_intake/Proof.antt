@@ -1,6 +1,6 @@
 -- `dted_intake`: intake's answer, packed.
 use Rattle.packing.specs.Packed.{packed}
-use mathlib.Core.Path.{sym, ap, _∙_}
+use mathlib.Core.Path.{ap, _∙_}
 use borrow.Author.Needs.{needs}
 use Rattle.dted.proofs.cells.dted_intake.Statement.{statement}
 use Rattle.dted.proofs.cells.dted_intake.Tie as tie

@@ -1,6 +1,6 @@
 -- `dted_position`: the position lookup's answer, packed.
 use Rattle.packing.specs.Packed.{packed}
-use mathlib.Core.Path.{sym, ap, _∙_}
+use mathlib.Core.Path.{ap, _∙_}
 use mir.Facts.{toZ-ofZ}
 use borrow.Author.Needs.{needs}
 use Rattle.dted.proofs.cells.dted_position.Statement.{statement}

@@ -2,7 +2,7 @@
 use Rattle.locating.proofs.Positions.{along-high}
 use Rattle.locating.proofs.position.from_corner.Statement.{statement}
 use Rattle.locating.proofs.position.from_corner.Tie as tie
-use Rattle.locating.specs.Position.{alongAxis, inCell}
+use Rattle.locating.specs.Position.{alongAxis}
 use Rattle.locating.specs.declared.position.Along.the-variants.{On}
 use borrow.Author.Needs.{needs}
 use borrow.Author.Tests.{le-leb, lt-leb}

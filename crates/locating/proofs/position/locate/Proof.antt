@@ -1,10 +1,10 @@
 -- `locate`: the headers, then the position under them.
-use Rattle.headers.proofs.FirstFour.{GoodFacts, good-facts}
+use Rattle.headers.proofs.FirstFour.{good-facts}
 use Rattle.headers.specs.Judged.{judged}
 use Rattle.headers.specs.declared.Judged.the-variants.{Good}
 use Rattle.locating.proofs.position.locate.Statement.{statement}
 use Rattle.locating.proofs.position.locate.Tie as tie
-use Rattle.locating.specs.Position.{locatedUnder, located}
+use Rattle.locating.specs.Position.{located}
 use borrow.Author.Needs.{needs}
 use mathlib.Core.Path.{_≡_, sym, _∙_}
 use mir.Facts.{toZ-ofZ}

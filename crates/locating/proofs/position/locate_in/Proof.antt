@@ -2,7 +2,7 @@
 use Rattle.locating.proofs.Positions.{Small, corner-small}
 use Rattle.locating.proofs.position.locate_in.Statement.{statement}
 use Rattle.locating.proofs.position.locate_in.Tie as tie
-use Rattle.locating.specs.Position.{southWest, locatedBy}
+use Rattle.locating.specs.Position.{southWest}
 use Rattle.locating.specs.declared.position.Within.the-variants as within
 use borrow.Author.Needs.{needs}
 use mathlib.Core.Path.{_≡_, sym, _∙_}

@@ -1,12 +1,12 @@
 -- `decimal`: the value so far is that of the digits read.
-use Prim.Native.Nat.{ℕ, _+_, _-_, _^_, _<_, _≤_}
+use Prim.Native.Nat.{_+_, _-_, _^_, _<_, _≤_}
 use Rattle.octets.proofs.DigitLaws.{decimal-step, decimal-below, decimal-small}
 use Rattle.octets.proofs.digits.decimal.Statement.{statement}
 use Rattle.octets.proofs.digits.decimal.Tie as tie
 use Rattle.octets.specs.Digits.{decimalAt}
 use Rattle.octets.specs.Places.{value}
 use borrow.Author.Needs.{needs}
-use mathlib.Core.Path.{_≡_, refl, sym, ap, _∙_}
+use mathlib.Core.Path.{_≡_, refl, ap, _∙_}
 use native.Mathlib.Omega.{arith}
 
 abbrev Inv-loop : tie.InvT-loop

@@ -1,5 +1,5 @@
 -- `put_digits`: what is left to put gives the whole.
-use Prim.Native.Nat.{ℕ, suc, _+_, _-_, _/_, _≤_}
+use Prim.Native.Nat.{_≤_}
 use Rattle.octets.proofs.DigitLaws.{digits-next, digits-none}
 use Rattle.octets.proofs.digits.put_digits.Statement.{statement}
 use Rattle.octets.proofs.digits.put_digits.Tie as tie
@@ -7,7 +7,7 @@ use Rattle.octets.specs.Digits.{digitsOf}
 use Rattle.octets.specs.Pastes.{pasted}
 use borrow.Author.Needs.{needs}
 use lib.ListN.{length, length-set}
-use mathlib.Core.Path.{_≡_, refl, sym, ap, _∙_}
+use mathlib.Core.Path.{_≡_, refl, sym, _∙_}
 use native.Mathlib.Omega.{arith}
 
 abbrev Inv-loop : tie.InvT-loop

@@ -1,5 +1,5 @@
 -- `fill`: what stands so far is a paste of so many bytes of the value.
-use Prim.Native.Nat.{ℕ, _+_, _-_, _≤_, _<_}
+use Prim.Native.Nat.{ℕ, _-_, _≤_}
 use Rattle.octets.proofs.PasteLaws.{paste-none, fill-more}
 use Rattle.octets.proofs.pastes.fill.Statement.{statement}
 use Rattle.octets.proofs.pastes.fill.Tie as tie

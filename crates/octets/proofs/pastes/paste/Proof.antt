@@ -1,5 +1,5 @@
 -- `paste`: what stands so far is a paste of the first bytes of `src`.
-use Prim.Native.Nat.{ℕ, _+_, _-_, _≤_, _<_}
+use Prim.Native.Nat.{_-_, _≤_}
 use Rattle.octets.proofs.PasteLaws.{paste-none, paste-more}
 use Rattle.octets.proofs.pastes.paste.Statement.{statement}
 use Rattle.octets.proofs.pastes.paste.Tie as tie

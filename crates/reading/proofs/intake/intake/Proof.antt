@@ -1,14 +1,13 @@
 -- `intake`: the headers, then the columns that they make due.
 use Rattle.headers.proofs.Exactly.{good-follows}
-use Rattle.headers.proofs.FirstFour.{GoodFacts, good-facts}
+use Rattle.headers.proofs.FirstFour.{good-facts}
 use Rattle.headers.specs.Judged.{judged}
 use Rattle.headers.specs.declared.Judged.the-variants.{Good}
 use Rattle.reading.proofs.intake.intake.Statement.{statement}
 use Rattle.reading.proofs.intake.intake.Tie as tie
-use Rattle.reading.specs.Intake.{taken, takenBy}
+use Rattle.reading.specs.Intake.{taken}
 use borrow.Author.Needs.{needs}
-use mathlib.Core.Path.{_≡_, sym, ap, _∙_}
-use native.Mathlib.Omega.{arith}
+use mathlib.Core.Path.{_≡_, sym, _∙_}
 
 good : (c : tie.After-known-told) → judged (c .before .before .before .before .before .args .cell .now) ≡ Good (c .before .judged .given .0 .0)
 good c = sym (c .before .before .before .judge .ensures) ∙ c .before .judged .given .1

@@ -1,9 +1,8 @@
 -- `take_columns`: what is left of the columns, and within one of its words, answers as the whole.
-use Prim.Native.Nat.{_+_, _-_, _*_, _≤_}
-use Rattle.answers.specs.Told as told
+use Prim.Native.Nat.{_+_, _-_, _≤_}
 use Rattle.columns.proofs.WordSearch.{word-on, word-stop}
 use Rattle.columns.specs.Column.{wordIn}
-use Rattle.columns.specs.Judged.{andThen, headOf, wordsFrom}
+use Rattle.columns.specs.Judged.{andThen, wordsFrom}
 use Rattle.columns.specs.declared.Judged.{Judged}
 use Rattle.octets.proofs.PasteLaws.{length-part}
 use Rattle.octets.proofs.ScanLaws.{scan-done}
@@ -16,7 +15,7 @@ use Rattle.reading.specs.Intake.{orRest, columnsFrom}
 use borrow.Author.Needs.{needs}
 use borrow.Author.Tests.{not-true, not-false}
 use lib.ListN.{length, take, drop}
-use mathlib.Core.Path.{_≡_, sym, ap, _∙_}
+use mathlib.Core.Path.{_≡_, sym, _∙_}
 use native.Mathlib.Nat.{sub-zero, add-sub-cancel-left}
 use native.Mathlib.Omega.{arith}
 

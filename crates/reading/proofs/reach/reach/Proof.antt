@@ -1,10 +1,10 @@
 -- `reach`: the headers, then the post under them.
-use Rattle.headers.proofs.FirstFour.{GoodFacts, good-facts}
+use Rattle.headers.proofs.FirstFour.{good-facts}
 use Rattle.headers.specs.Judged.{judged}
 use Rattle.headers.specs.declared.Judged.the-variants.{Good}
 use Rattle.reading.proofs.reach.reach.Statement.{statement}
 use Rattle.reading.proofs.reach.reach.Tie as tie
-use Rattle.reading.specs.Reach.{reachedUnder, reached}
+use Rattle.reading.specs.Reach.{reached}
 use borrow.Author.Needs.{needs}
 use mathlib.Core.Path.{_≡_, sym, _∙_}
 

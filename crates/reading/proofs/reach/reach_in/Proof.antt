@@ -1,5 +1,5 @@
 -- `reach_in`: off the grid, its column cut, or as its column is judged.
-use Prim.Native.Nat.{_+_, _*_, _≤_}
+use Prim.Native.Nat.{_*_, _≤_}
 use Rattle.reading.proofs.PostReached.{off-columns, off-posts, column-cut, column-judged}
 use Rattle.reading.proofs.Turns.{start-small, part-is}
 use Rattle.reading.proofs.reach.reach_in.Statement.{statement}

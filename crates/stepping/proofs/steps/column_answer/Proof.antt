@@ -1,5 +1,4 @@
 -- `column_answer`: by whether a column is due, whether the piece is long enough, and how it is judged.
-use Prim.Native.Nat.{_+_, _*_, _≤_}
 use Rattle.reading.proofs.Turns.{start-small}
 use Rattle.stepping.proofs.Pieces.{piece-past, piece-short, piece-judged}
 use Rattle.stepping.proofs.steps.column_answer.Statement.{statement}

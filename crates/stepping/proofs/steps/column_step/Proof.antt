@@ -4,7 +4,7 @@ use Rattle.stepping.proofs.Kept.{kept, next-small}
 use Rattle.stepping.proofs.steps.column_step.Statement.{statement}
 use Rattle.stepping.proofs.steps.column_step.Tie as tie
 use borrow.Author.Needs.{needs}
-use mathlib.Core.Path.{_≡_, refl, sym, ap, _∙_}
+use mathlib.Core.Path.{refl, sym, ap, _∙_}
 use native.Mathlib.Omega.{arith}
 
 columns-answer-requires : tie.Need-columns-answer-requires

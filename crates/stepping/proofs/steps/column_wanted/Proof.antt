@@ -7,7 +7,7 @@ use Rattle.stepping.proofs.steps.column_wanted.Tie as tie
 use borrow.Author.Needs.{needs}
 use borrow.Author.Tests.{lt-ltb, le-ltb}
 use lib.Dec.{lit≤}
-use mathlib.Core.Path.{_≡_, sym, ap, _∙_}
+use mathlib.Core.Path.{_≡_, sym, _∙_}
 use native.Mathlib.Omega.{arith}
 
 out : (c : tie.After-known-told) → let a = c .before .before .before .before .args in laid (a .due .level) (a .due .edge) ≡ Out (c .before .laid .given .0 .0)

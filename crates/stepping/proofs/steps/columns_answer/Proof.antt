@@ -1,6 +1,5 @@
 -- `columns_answer`: by whether there is such a grid.
 use Rattle.layout.proofs.Ranges.{Ranged, ranged, laid-out}
-use Rattle.layout.specs.declared.Grid.{Grid}
 use Rattle.stepping.proofs.steps.columns_answer.Statement.{statement}
 use Rattle.stepping.proofs.steps.columns_answer.Tie as tie
 use borrow.Author.Needs.{needs}

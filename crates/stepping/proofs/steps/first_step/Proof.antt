@@ -4,7 +4,7 @@ use Rattle.stepping.proofs.steps.first_step.Statement.{statement}
 use Rattle.stepping.proofs.steps.first_step.Tie as tie
 use Rattle.stepping.specs.Steps.{saidOfHeaders}
 use borrow.Author.Needs.{needs}
-use mathlib.Core.Path.{_≡_, refl, sym, ap, _∙_}
+use mathlib.Core.Path.{refl, sym, ap, _∙_}
 
 judge-requires : tie.Need-judge-requires
 judge-requires c κs = search needs

@@ -4,7 +4,7 @@ use Rattle.vectors.proofs.stream.put_heights.Statement.{statement}
 use Rattle.vectors.proofs.stream.put_heights.Tie as tie
 use borrow.Author.Needs.{needs}
 use lib.ListN.{length, length-set}
-use mathlib.Core.Path.{_≡_, refl, _∙_}
+use mathlib.Core.Path.{_≡_, refl}
 use native.Mathlib.Omega.{arith}
 
 abbrev Inv-loop : tie.InvT-loop

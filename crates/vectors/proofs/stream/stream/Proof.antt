@@ -3,9 +3,8 @@ use Prim.Native.Nat.{_-_, _≤_}
 use Rattle.vectors.proofs.stream.stream.Statement.{statement}
 use Rattle.vectors.proofs.stream.stream.Tie as tie
 use borrow.Author.Needs.{needs}
-use lib.ListN.{length, length-replicate}
-use mathlib.Core.Path.{_≡_, refl, sym, _∙_}
-use native.Mathlib.Omega.{arith}
+use lib.ListN.{length}
+use mathlib.Core.Path.{_≡_}
 
 abbrev Inv-loop : tie.InvT-loop
 Inv-loop level columns posts buffer₀ heights₀ steps₀ k₀ t11 buffer heights steps k =

@@ -14,7 +14,7 @@ use Rattle.writing.specs.Cell.{cellOf}
 use Rattle.writing.specs.Given.{outputAfter}
 use Rattle.writing.specs.Grid.{columnsWritten, afresh}
 use borrow.Author.Needs.{needs}
-use mathlib.Core.Path.{_≡_, refl, sym, ap, _∙_}
+use mathlib.Core.Path.{ap, _∙_}
 use native.Mathlib.Omega.{arith}
 
 within : (s : tie.Start) → Ranged (s .args .grid)

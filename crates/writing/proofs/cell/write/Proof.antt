@@ -3,7 +3,6 @@ use Rattle.answers.specs.Told.{told, act}
 use Rattle.answers.specs.declared.Outcome.{Outcome}
 use Rattle.answers.specs.declared.Outcome.the-variants.{Done}
 use Rattle.describing.proofs.LaidGrids.{grid-due, laid-always}
-use Rattle.layout.specs.declared.Grid.{Grid}
 use Rattle.writing.proofs.CellExactly.{Ready, ready}
 use Rattle.writing.proofs.GridDue.{facts-grid}
 use Rattle.writing.proofs.cell.write.Statement.{statement}
@@ -13,7 +12,6 @@ use Rattle.writing.specs.Given.{outputAfter}
 use borrow.Author.Needs.{needs}
 use lib.ListN.{length}
 use mathlib.Core.Path.{_≡_, refl, sym, ap, _∙_}
-use native.Mathlib.Omega.{arith}
 
 -- the call was accepted
 module _ (c : tie.After-enum-told) where

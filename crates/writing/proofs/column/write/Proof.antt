@@ -14,7 +14,7 @@ use Rattle.writing.specs.Column.{judgedColumn, columnTold, columnOutput}
 use Rattle.writing.specs.Given.{outputAfter}
 use borrow.Author.Needs.{needs}
 use lib.ListN.{length}
-use mathlib.Core.Path.{_≡_, refl, sym, ap, _∙_}
+use mathlib.Core.Path.{_≡_, sym, ap, _∙_}
 use native.Mathlib.Omega.{arith}
 
 -- the call was accepted

@@ -1,5 +1,5 @@
 -- `judge_heights`: what is left of the heights answers as all of them.
-use Prim.Native.Nat.{_+_, _-_, _≤_}
+use Prim.Native.Nat.{_-_, _≤_}
 use Rattle.posts.specs.Heights.{heightAllowed}
 use Rattle.writing.proofs.HeightSearch.{height-on, height-stop, heights-done}
 use Rattle.writing.proofs.given.judge_heights.Statement.{statement}

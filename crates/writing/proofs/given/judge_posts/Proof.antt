@@ -4,7 +4,7 @@ use Rattle.writing.proofs.given.judge_posts.Tie as tie
 use Rattle.writing.specs.Given.{judgedPosts}
 use borrow.Author.Needs.{needs}
 use borrow.Author.Tests.{eq-eqb, ne-eqb}
-use mathlib.Core.Path.{sym, _∙_}
+use mathlib.Core.Path.{_∙_}
 
 returns : tie.Need-returns
 unfolding judgedPosts

@@ -3,7 +3,7 @@ use Rattle.stepping.proofs.Kept.{kept, over-kept}
 use Rattle.stepping.proofs.steps.Steps.step.Statement.{statement}
 use Rattle.stepping.proofs.steps.Steps.step.Tie as tie
 use borrow.Author.Needs.{needs}
-use mathlib.Core.Path.{_≡_, refl, sym, ap, _∙_}
+use mathlib.Core.Path.{refl}
 
 enum-told : tie.Need-enum-told
 enum-told c = search needs
