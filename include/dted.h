@@ -9,7 +9,9 @@
  * threads at once, nor read while it is edited.
  *
  * ANSWERS. A call answers one 64-bit number: the refusal's number in the top 8 bits, 0 where the call was not refused, and
- * its place, or the call's value, in the low 56. The takers-apart below read them.
+ * its place, or the call's value, in the low 56. Values have 16 bits each, from bit 0 up: posts, columns and level; a height in
+ * two's complement, and above it, for a position, post and column. The takers-apart below read them; of a refusal, dted_number
+ * and dted_place alone say anything.
  */
 #ifndef DTED_H
 #define DTED_H
@@ -32,7 +34,7 @@ enum {
     DTED_WORD = 6,        /* a post word is not allowed: its offset */
     DTED_SURPLUS = 7,     /* bytes after the last column: the cell length due */
     DTED_OFF_GRID = 8,    /* an index or a position is off the grid: 0 */
-    DTED_ITEM = 9,        /* an item is out of its range: its number, from 1 */
+    DTED_ITEM = 9,        /* an item is out of its range: its number, from 1, so one more than its index below */
     DTED_GRID_LENGTH = 10, /* the grid's length differs: the number of posts due */
     DTED_HEIGHT = 11,     /* a height or void is not allowed: its index in the grid; 0 for an edit */
     DTED_ROOM = 12        /* the output is too short: the length due */
@@ -156,8 +158,10 @@ static inline int dted_word_height(const uint8_t *word) {
     return magnitude == 0x7FFF ? DTED_VOID : -magnitude;
 }
 
-/* A height or DTED_VOID as the two bytes that a grid has for it. */
+/* A height or DTED_VOID as the two bytes that a grid has for it; a number of more than 16 bits as -32768, which no writer takes. */
 static inline void dted_put_height(uint8_t *bytes, int height) {
+    if (height < -32768 || height > 32767)
+        height = -32768;
     bytes[0] = (uint8_t)((unsigned)height >> 8 & 0xFF);
     bytes[1] = (uint8_t)((unsigned)height & 0xFF);
 }

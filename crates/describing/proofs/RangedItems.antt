@@ -108,10 +108,15 @@ lowest n (true ∷ ts) (suc k) h e =
 lowest n (false ∷ ts) zero h e = (refl, λ k l. absurd (omega arith))
 lowest n (false ∷ ts) (suc k) h e = absurd (omega arith)
 
+-- the first failed test is numbered 0 exactly where every test holds, and else it is the lowest that does not
+pub first-exactly : (ts : List Bool)
+    → ((firstFailed 1 ts ≡ 0 → every ts ≡ true) × (every ts ≡ true → firstFailed 1 ts ≡ 0)) × ((n : ℕ) → firstFailed 1 ts ≡ suc n → Lowest ts n)
+first-exactly ts = (
+  (λ e. none-failed 1 ts (omega arith) e, λ e. failed-none 1 ts e),
+  λ n e. lowest 1 ts n (omega arith) (e ∙ omega arith),
+)
+
 -- `bad_item` answers 0 exactly where all items are in range, and else the lowest item that is not
 pub item-exactly : (d : Description)
     → ((badItem d ≡ 0 → inRange d ≡ true) × (inRange d ≡ true → badItem d ≡ 0)) × ((n : ℕ) → badItem d ≡ suc n → Lowest (itemTests d) n)
-item-exactly d = (
-  (λ e. none-failed 1 (itemTests d) (omega arith) e, λ e. failed-none 1 (itemTests d) e),
-  λ n e. lowest 1 (itemTests d) n (omega arith) (e ∙ omega arith),
-)
+item-exactly d = first-exactly (itemTests d)

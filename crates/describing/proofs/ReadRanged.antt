@@ -1,7 +1,7 @@
 -- What good headers say is in range: a description that was read may be written.
 use Prim.Native.Nat.{ℕ, _<_}
 use native.Mathlib.Omega.{arith}
-use mathlib.Core.Path.{_≡_, sym}
+use mathlib.Core.Path.{_≡_, refl, sym, subst}
 use mathlib.Core.Bool.{true}
 use mathlib.Core.List.{List}
 use lib.Dec.{leb, ltb, lit<}
@@ -13,14 +13,18 @@ use Rattle.octets.specs.Texts.{ascii, has}
 use Rattle.octets.proofs.ChoiceLaws.{both-true, by-test}
 use Rattle.octets.proofs.DigitLaws.{decimal-below}
 use Rattle.octets.proofs.PartLaws.{byte-part, decimal-part}
-use Rattle.headers.specs.Judged.{factsIn, Follows}
+use Rattle.headers.specs.Judged.{judged, factsIn, Follows}
+use Rattle.headers.specs.declared.Judged.{Judged}
+use Rattle.headers.specs.declared.Judged.the-variants.{Good, Refused}
 use Rattle.headers.specs.Angles.{northward, eastward}
 use Rattle.headers.specs.Due.{levelAt, originAt, dueIn}
 use Rattle.headers.specs.Rules.{isLetter, isVersion, holds}
-use Rattle.headers.proofs.Exactly.{follows-good}
+use Rattle.headers.proofs.Exactly.{good-follows, follows-good}
 use Rattle.headers.proofs.FirstFour.{good-facts, level-below}
 use Rattle.describing.specs.Items.{accuracyRanged, itemTests, inRange}
-use Rattle.describing.specs.Described.{accuracyAt, itemsIn}
+use Rattle.describing.specs.Described.{accuracyAt, itemsIn, describedBy, described}
+use Rattle.describing.specs.declared.Description.{Description}
+use Rattle.describing.specs.declared.Described.the-variants.{As}
 
 -- four digits are at most 9,999 metres
 accuracy-ranged : (s : List ℕ) (at : ℕ) → accuracyRanged (accuracyAt s at) ≡ true
@@ -56,3 +60,14 @@ module _ (s : List ℕ) (follows : Follows s) where
       let longitude : ltb (originAt eastward s 4) 360 ≡ true = lt-ltb _ 360 (f .longitude) in
       let partial : leb (decimalAt s 369 2) 99 ≡ true = le-leb (decimalAt s 369 2) 99 (omega (arith, decimal-below s 369 2)) in
       rw (lt-ltb (levelAt s) 3 (level-below s), latitude, longitude, security-ranged, edition-ranged, version-ranged, accuracy-ranged s 28, accuracy-ranged s 731, accuracy-ranged s 735, accuracy-ranged s 739, accuracy-ranged s 743, partial)
+
+described-by : (s : List ℕ) (x : Judged) → judged s ≡ x → (d : Description) → describedBy s x ≡ As d → inRange d ≡ true
+described-by s (Good f) e d q =
+    let same : itemsIn s ≡ d = cc in
+    subst (λ (y : Description). inRange y ≡ true) same (read-ranged s (good-follows s f e .0))
+described-by s (Refused r) e d q = let z : _≡_ {A = ℕ} 0 1 = cc in absurd (omega arith)
+
+-- so is what the description reader gives
+pub described-ranged : (s : List ℕ) (d : Description) → described s ≡ As d → inRange d ≡ true
+unfolding described
+described-ranged s d e = described-by s (judged s) refl d e

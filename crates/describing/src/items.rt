@@ -1,6 +1,6 @@
 // The items of a description, each in its range.
 ghost use mathlib.Core.Path.{_≡_};
-ghost use Rattle.describing.specs.Items.{accuracyRanged, itemTests, badItem};
+ghost use Rattle.describing.specs.Items.{accuracyRanged, itemTests, firstFailed, badItem};
 ghost use Rattle.describing.specs.Written.{accuracyFor};
 use crate::Accuracy;
 use crate::Description;
@@ -56,17 +56,24 @@ fn item_tests(d: Description) -> [bool; ITEMS]
     ]
 }
 
-// The number of the lowest item that is out of range, 0 where none is.
-pub fn bad_item(d: Description) -> usize
-    ensures { λ r. ⌜ r ≡ badItem d ⌝ }
+// The number of the first test that fails, counted from 1, or 0 where none does.
+pub fn first_failed(tests: &[bool]) -> usize
+    ensures { λ r. ⌜ r ≡ firstFailed 1 (now (tests .entry)) ⌝ }
 {
-    let tests = item_tests(d);
     let mut i = 0;
-    while i < ITEMS {
+    while i < tests.len() {
         if !tests[i] {
             return i + 1;
         }
         i += 1;
     }
     0
+}
+
+// The number of the lowest item that is out of range, 0 where none is.
+pub fn bad_item(d: Description) -> usize
+    ensures { λ r. ⌜ r ≡ badItem d ⌝ }
+{
+    let tests = item_tests(d);
+    first_failed(&tests)
 }

@@ -6,7 +6,7 @@ use answers::Refusal;
 use posts::heights::is_allowed;
 
 // Room for so many bytes.
-fn judge_room(due: usize, room: usize) -> Outcome
+pub fn judge_room(due: usize, room: usize) -> Outcome
     ensures { λ r. ⌜ r ≡ roomFor due room ⌝ }
 {
     if room < due {

@@ -1,0 +1,24 @@
+// The writers.
+ghost use mathlib.Core.Path.{_≡_};
+ghost use Rattle.packing.specs.Packed.{packed};
+ghost use Rattle.hosting.specs.Cell.{bytesTold, bytesOutput};
+ghost use Rattle.hosting.specs.Column.{columnBytesTold, columnBytesOutput};
+use hosting::items::ITEMS;
+
+#[no_mangle]
+pub extern "C" fn dted_write(out: &mut [u8], items: &[i64; ITEMS], grid: &[u8]) -> u64
+    ensures { λ r. ⌜ r ≡ packed (bytesTold (now (items .entry)) (now (grid .entry)) (now (out .entry))) ⌝ }
+    ensures { λ _. ⌜ now (out .exit) ≡ bytesOutput (now (items .entry)) (now (grid .entry)) (now (out .entry)) ⌝ }
+{
+    let answer = hosting::cell::write(out, items, grid);
+    packing::outcome(answer)
+}
+
+#[no_mangle]
+pub extern "C" fn dted_write_column(out: &mut [u8], level: u64, number: u64, posts: &[u8]) -> u64
+    ensures { λ r. ⌜ r ≡ packed (columnBytesTold level number (now (posts .entry)) (now (out .entry))) ⌝ }
+    ensures { λ _. ⌜ now (out .exit) ≡ columnBytesOutput level number (now (posts .entry)) (now (out .entry)) ⌝ }
+{
+    let answer = hosting::column::write(out, level as usize, number as usize, posts);
+    packing::outcome(answer)
+}

@@ -1,0 +1,33 @@
+-- The writer of a whole cell for a C host (rules W1, W4 and B2): items are numbers, and the grid is bytes.
+use Prim.Native.Nat.{ℕ}
+use mathlib.Core.List.{List}
+use lib.IntN.{ℤ}
+use lib.ListN.{length}
+use lib.Dec.{eqb}
+use Rattle.octets.specs.Choice.{pick}
+use Rattle.answers.specs.Told.{Told, told, act}
+use Rattle.answers.specs.declared.Refusal.the-variants.{Item}
+use Rattle.answers.specs.declared.Outcome.{Outcome}
+use Rattle.answers.specs.declared.Outcome.the-variants.{Refused}
+use Rattle.headers.specs.Judged.{voidsAllowed}
+use Rattle.describing.specs.declared.Description.{Description}
+use Rattle.writing.specs.Given.{outputAfter}
+use Rattle.writing.specs.Cell.{factsFor, postsDue, cellOf}
+use Rattle.hosting.specs.Words.{heightsIn}
+use Rattle.hosting.specs.Items.{badNumber, descriptionOf}
+use Rattle.hosting.specs.Given.{judgedGiven}
+
+-- 10, 11 and 12 under a description
+unfoldable pub judgedUnder : Description → List ℕ → ℕ → Outcome
+judgedUnder d grid room = judgedGiven (postsDue (factsFor d .grid)) (factsFor d .grid .bytes .cell) (voidsAllowed (factsFor d)) grid room
+
+-- W1: the order of the call, for an output of so many bytes: 9 with the lowest item comes first
+unfoldable pub judgedBytes : List ℤ → List ℕ → ℕ → Outcome
+judgedBytes items grid room = pick (eqb (badNumber items) 0) (judgedUnder (descriptionOf items) grid room) (Refused (Item (badNumber items)))
+
+-- what is told of the call, and the output at its end
+unfoldable pub bytesTold : List ℤ → List ℕ → List ℕ → Told
+bytesTold items grid out = told act (judgedBytes items grid (length out))
+
+unfoldable pub bytesOutput : List ℤ → List ℕ → List ℕ → List ℕ
+bytesOutput items grid out = outputAfter (judgedBytes items grid (length out)) (cellOf (descriptionOf items) (heightsIn grid)) out

@@ -1,0 +1,52 @@
+// The column writer for a C host: one column from a level, its number and its heights in bytes, voids allowed.
+ghost use mathlib.Core.Path.{_≡_};
+ghost use lib.ListN.{length};
+ghost use Prim.Native.Nat.{_+_, _*_, _<_, _≤_};
+ghost use Rattle.answers.specs.Told as told;
+ghost use Rattle.columns.specs.Column.{columnOf};
+ghost use Rattle.hosting.specs.Words.{heightsIn};
+ghost use Rattle.hosting.specs.Column.{judgedColumnBytes, columnBytesTold, columnBytesOutput};
+use crate::given::judge_given;
+use crate::given::put_given;
+use answers::Outcome;
+use answers::Refusal;
+use layout::Laid;
+
+// Whether the column may be written into so much room.
+fn judge(level: usize, number: usize, posts: &[u8], room: usize) -> Outcome
+    ensures { λ r. ⌜ r ≡ judgedColumnBytes level number (now (posts .entry)) room ⌝ }
+{
+    match layout::lay(level, 0) {
+        Laid::Out(laid) => {
+            if laid.columns <= number {
+                return Outcome::Refused(Refusal::OffGrid);
+            }
+            let bytes = laid.bytes;
+            judge_given(posts, true, laid.posts, bytes.column, room)
+        }
+        Laid::NoLevel => Outcome::Refused(Refusal::Item(1)),
+        Laid::NoZone => Outcome::Refused(Refusal::Item(1)),
+    }
+}
+
+// The column over bytes of its length, with a buffer of its own.
+fn put(out: &mut [u8], number: usize, posts: &[u8], count: usize)
+    requires { ⌜ (length (now out) ≡ 12 + 2 * count) × ((length (now posts) ≡ 2 * count) × ((count ≤ 3601) × (number < 65536))) ⌝ }
+    ensures { λ _. ⌜ now (out .exit) ≡ columnOf number (heightsIn (now (posts .entry))) ⌝ }
+{
+    let mut buffer = [0i16; 3601];
+    put_given(out, &mut buffer, number, posts, count);
+}
+
+// Column `number` of a level from its heights, at the front of `out`; any numbers, any bytes.
+pub fn write(out: &mut [u8], level: usize, number: usize, posts: &[u8]) -> Outcome
+    ensures { λ r. ⌜ told.told told.act r ≡ columnBytesTold level number (now (posts .entry)) (now (out .entry)) ⌝ }
+    ensures { λ _. ⌜ now (out .exit) ≡ columnBytesOutput level number (now (posts .entry)) (now (out .entry)) ⌝ }
+{
+    let judged = judge(level, number, posts, out.len());
+    if let Outcome::Done = judged {
+        let end = 12 + posts.len();
+        put(&mut out[0..end], number, posts, posts.len() / 2);
+    }
+    judged
+}

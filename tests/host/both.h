@@ -1,0 +1,46 @@
+/* both.h - each call made twice, of the library and of the second reader and writer, on the same numbers and bytes.
+ *
+ * The library's bytes stand between pages that cannot be touched. Answers, filled arrays and every lent byte are compared, and
+ * after a refused call also with the bytes before it. A difference is told to differ(), which the program defines.
+ */
+#ifndef BOTH_H
+#define BOTH_H
+
+#include "lent.h"
+
+#define BOTH_ITEMS 13
+
+/* The longest cell, of level 2 in zone I, and some bytes past it. */
+#define BOTH_MOST (25981042 + 4096)
+
+/* Told at a difference: the call, what differed, where (an offset or an index), and both values. */
+void differ(const char *call, const char *what, uint64_t at, uint64_t library, uint64_t second);
+
+/* The call that is running: of use where it does not return. */
+extern const char *volatile both_calling;
+
+void both_open(void);
+
+/* On which side the pages that cannot be touched stand, for what is lent from now on. */
+void both_side(enum side side);
+
+/* Lends a copy of these bytes to the calls that follow; null pointers are lent as they are. */
+void both_lend(const uint8_t *cell, size_t length);
+
+/* The lent cell as the library left it. */
+const uint8_t *both_cell(void);
+
+/* Each gives the library's answer. */
+uint64_t both_intake(void);
+uint64_t both_describe(int64_t *items);
+uint64_t both_post(uint64_t column, uint64_t post);
+uint64_t both_position(int64_t latitude, int64_t longitude);
+uint64_t both_edit(uint64_t column, uint64_t post, int64_t height);
+uint64_t both_grid(uint64_t level, int64_t latitude);
+
+/* An output of `room` bytes is lent, null where `null_out` and room is 0; what was written stands at both_out(). */
+uint64_t both_write(size_t room, bool null_out, const int64_t *items, const uint8_t *grid, size_t bytes);
+uint64_t both_write_column(size_t room, bool null_out, uint64_t level, uint64_t number, const uint8_t *posts, size_t bytes);
+const uint8_t *both_out(void);
+
+#endif

@@ -1,0 +1,56 @@
+/* cells.h - cells made from a seed, whole or damaged in a named way, as input for the tests. */
+#ifndef CELLS_H
+#define CELLS_H
+
+#include "numbers.h"
+
+#include <stdbool.h>
+#include <stddef.h>
+#include <stdint.h>
+
+#define CELL_ITEMS 13
+#define CELL_HEADERS 3428
+#define CELL_VOID (-32767)
+
+/* ---- the header fields ---- */
+
+struct cell_field {
+    size_t offset, width;
+};
+extern const struct cell_field cell_fields[];
+extern const size_t cell_field_count;
+
+/* Texts that stand in some field of some cell, or nearly: to be tried wherever their width fits. Ends with null. */
+extern const char *const cell_texts[];
+
+/* ---- cells ---- */
+
+struct cell {
+    int64_t items[CELL_ITEMS]; /* what it was written from */
+    size_t columns, posts, column_bytes;
+    uint8_t *grid; /* the heights of the columns that were made, as a writer takes them, and two bytes more */
+    size_t grid_bytes;
+    uint8_t *bytes;
+    size_t length, room;
+    bool whole;            /* nothing was damaged: it is accepted, and its posts are the grid's */
+    char damage[96];       /* in words */
+    size_t damaged_column; /* one worth a look */
+};
+
+/* Items in range, at the edges of zones, hemispheres and ranges half of the time. */
+void cell_items(struct random *random, int64_t level, int64_t *items);
+
+/* Heights for `count` posts, at the limits at times, with voids where they are allowed. */
+void cell_heights(struct random *random, bool voids, uint8_t *grid, size_t count);
+
+/* A cell of these items, cut after `columns_made` columns (SIZE_MAX: whole). Free bytes and free letters are random at times.
+ * The memory of an earlier cell is used again: start from a zeroed struct. */
+void cell_make(struct random *random, const int64_t *items, size_t columns_made, struct cell *cell);
+
+/* One or two damages, or a change that leaves the cell right. */
+void cell_damage(struct random *random, struct cell *cell);
+
+void cell_mend_checksum(struct cell *cell, size_t column);
+void cell_free(struct cell *cell);
+
+#endif

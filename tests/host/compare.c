@@ -1,0 +1,450 @@
+/* compare.c - compares the library with the second reader and writer on cases from a seed: compare [SEED [CASES]].
+ *
+ * Prints the seed first, at most 20 reports of differences, and last `N passed, M failed`.
+ */
+#define _XOPEN_SOURCE 700 /* sigaction, sigaltstack, sigsetjmp, alarm */
+#include "compare.h"
+
+#include "both.h"
+#include "cells.h"
+#include "dted.h"
+#include "second.h"
+
+#include <inttypes.h>
+#include <setjmp.h>
+#include <signal.h>
+#include <stdarg.h>
+#include <stdio.h>
+#include <stdlib.h>
+#include <string.h>
+#include <time.h>
+#include <unistd.h>
+
+#define MOST_REPORTS 20
+#define MOST_SECONDS 120 /* for one case: far more than the longest takes, even in a checked build */
+#define CASES 24000
+
+static uint64_t seed, case_number, passed, failed, reports;
+static bool case_differs;
+static char case_name[160];
+
+/* ---- cases ---- */
+
+void name_case(const char *format, ...) {
+    va_list list;
+    va_start(list, format);
+    vsnprintf(case_name, sizeof case_name, format, list);
+    va_end(list);
+}
+
+/* Counts a difference; true where it is the first of its case and there is room for a report. */
+static bool to_report(void) {
+    bool first = !case_differs;
+    case_differs = true;
+    if (!first || reports == MOST_REPORTS)
+        return false;
+    reports++;
+    printf("case %" PRIu64 " of seed %" PRIu64 " (%s): ", case_number, seed, case_name);
+    return true;
+}
+
+void differ(const char *call, const char *what, uint64_t at, uint64_t library, uint64_t second) {
+    if (to_report())
+        printf("%s: %s at %" PRIu64 ": %016" PRIX64 ", the second has %016" PRIX64 "\n", call, what, at, library, second);
+}
+
+void expect(const char *what, uint64_t library, uint64_t due) {
+    if (library != due && to_report())
+        printf("%s: %016" PRIX64 ", due is %016" PRIX64 "\n", what, library, due);
+}
+
+static sigjmp_buf out_of_case;
+
+static void on_signal(int number) {
+    siglongjmp(out_of_case, number);
+}
+
+/* On a stack of its own: a call that uses up the stack is a fault like another. */
+static void catch_signals(void) {
+    static const int numbers[] = {SIGSEGV, SIGBUS, SIGILL, SIGFPE, SIGALRM, SIGABRT};
+    static uint8_t room[1 << 16];
+    stack_t stack;
+    struct sigaction action;
+    memset(&stack, 0, sizeof stack);
+    memset(&action, 0, sizeof action);
+    stack.ss_sp = room;
+    stack.ss_size = sizeof room;
+    sigaltstack(&stack, NULL);
+    action.sa_handler = on_signal;
+    action.sa_flags = SA_ONSTACK;
+    for (size_t i = 0; i < COUNT(numbers); i++)
+        sigaction(numbers[i], &action, NULL);
+}
+
+void run_case(void (*body)(const void *), const void *context) {
+    case_number++;
+    case_differs = false;
+    name_case("not named");
+    alarm(MOST_SECONDS);
+    int number = sigsetjmp(out_of_case, 1);
+    if (number == 0)
+        body(context);
+    else if (to_report())
+        printf("%s: signal %d: it %s\n", both_calling, number,
+               number == SIGALRM ? "does not return" : "touches a byte that it was not lent, or stops");
+    alarm(0);
+    if (case_differs)
+        failed++;
+    else
+        passed++;
+}
+
+/* ---- numbers for the calls ---- */
+
+static uint64_t any_column(struct random *random, const struct cell *cell) {
+    switch (random_below(random, 8)) {
+    case 0: return random_odd_index(random, random_below(random, cell->columns));
+    case 1: return cell->columns - 1 + random_below(random, 2);
+    case 2: return 0;
+    case 3: return cell->damaged_column;
+    case 4: return (cell->length - (cell->length < CELL_HEADERS ? cell->length : CELL_HEADERS)) / cell->column_bytes;
+    default: return random_below(random, cell->columns);
+    }
+}
+
+static uint64_t any_post(struct random *random, const struct cell *cell) {
+    switch (random_below(random, 8)) {
+    case 0: return random_odd_index(random, random_below(random, cell->posts));
+    case 1: return cell->posts - 1 + random_below(random, 2);
+    case 2: return 0;
+    default: return random_below(random, cell->posts);
+    }
+}
+
+/* A way along an edge of `count` marks: on a mark, about half way between two, at an end, near mark `favoured`, or far out. */
+static int64_t any_way(struct random *random, size_t count, size_t favoured) {
+    int64_t interval = 36000 / (int64_t)(count - 1), mark = (int64_t)random_below(random, count);
+    switch (random_below(random, 8)) {
+    case 0: return random_between(random, -2, 2);
+    case 1: return 36000 + random_between(random, -2, 2);
+    case 2: return mark * interval;
+    case 3: case 4: return mark * interval + interval / 2 + random_between(random, -1, 1);
+    case 5: return (int64_t)favoured * interval + random_between(random, -interval / 2, interval / 2);
+    default: return random_between(random, 0, 36000);
+    }
+}
+
+static int64_t any_longitude(struct random *random, const struct cell *cell) {
+    int64_t west = cell->items[DTED_LONGITUDE] * 36000;
+    if (random_one_in(random, 12))
+        return random_odd_number(random, west);
+    if (random_one_in(random, 12))
+        return random_one_in(random, 2) ? 6480000 : -6480000;
+    return west + any_way(random, cell->columns, cell->damaged_column);
+}
+
+static int64_t any_latitude(struct random *random, const struct cell *cell) {
+    int64_t south = cell->items[DTED_LATITUDE] * 36000;
+    if (random_one_in(random, 12))
+        return random_odd_number(random, south);
+    return south + any_way(random, cell->posts, 0);
+}
+
+static int64_t any_height(struct random *random) {
+    switch (random_below(random, 8)) {
+    case 0: return DTED_VOID;
+    case 1: return random_odd_number(random, random_between(random, -12000, 9000));
+    case 2: return random_between(random, 8999, 9001);
+    case 3: return random_between(random, -12001, -11999);
+    default: return random_between(random, -12000, 9000);
+    }
+}
+
+static int64_t height_made(const struct cell *cell, uint64_t column, uint64_t post) {
+    const uint8_t *word = cell->grid + 2 * (column * cell->posts + post);
+    int64_t value = word[0] * 256 + word[1];
+    return value < 0x8000 ? value : value - 0x10000;
+}
+
+/* ---- cells, judged and read ---- */
+
+static void expect_whole(const struct cell *cell, uint64_t intake, const int64_t *items) {
+    expect("intake: number", dted_number(intake), 0);
+    expect("intake: level", dted_level(intake), (uint64_t)cell->items[DTED_LEVEL]);
+    expect("intake: columns", dted_columns(intake), cell->columns);
+    expect("intake: posts", dted_posts(intake), cell->posts);
+    expect("intake: length", dted_cell_length(intake), cell->length);
+    for (int i = 0; i < CELL_ITEMS; i++)
+        expect("an item as it was made", (uint64_t)items[i], (uint64_t)cell->items[i]);
+}
+
+static void look_up(struct random *random, const struct cell *cell) {
+    for (int i = 0; i < 6; i++) {
+        uint64_t column = any_column(random, cell), post = any_post(random, cell), answer = both_post(column, post);
+        if (cell->whole && column < cell->columns && post < cell->posts)
+            expect("post", dted_number(answer), 0);
+        if (cell->whole && dted_number(answer) == 0)
+            expect("a height as it was made", (uint64_t)dted_height(answer), (uint64_t)height_made(cell, column, post));
+    }
+    for (int i = 0; i < 8; i++) {
+        uint64_t answer = both_position(any_latitude(random, cell), any_longitude(random, cell));
+        if (cell->whole && dted_number(answer) == 0)
+            expect("a nearest height as it was made", (uint64_t)dted_height(answer),
+                   (uint64_t)height_made(cell, dted_position_column(answer), dted_position_post(answer)));
+    }
+}
+
+static void judge_and_read(struct random *random, const struct cell *cell) {
+    int64_t items[CELL_ITEMS];
+    both_lend(cell->bytes, cell->length);
+    uint64_t intake = both_intake();
+    both_describe(items);
+    if (cell->whole)
+        expect_whole(cell, intake, items);
+    look_up(random, cell);
+    for (int i = 0; i < 4; i++)
+        both_edit(any_column(random, cell), any_post(random, cell), any_height(random));
+    both_intake();
+}
+
+/* One replaced byte of a column is refused, with a place in that column. */
+static void replace_bytes(struct random *random, struct cell *cell) {
+    for (int i = 0; i < 4; i++) {
+        size_t column = random_below(random, cell->columns);
+        size_t start = CELL_HEADERS + column * cell->column_bytes, at = start + random_below(random, cell->column_bytes);
+        uint8_t kept = cell->bytes[at];
+        cell->bytes[at] ^= (uint8_t)(1 + random_below(random, 255));
+        both_lend(cell->bytes, cell->length);
+        uint64_t answer = both_intake();
+        expect("a replaced byte is refused", dted_number(answer) != 0, 1);
+        expect("in its column", start <= dted_place(answer) && dted_place(answer) < start + cell->column_bytes, 1);
+        cell->bytes[at] = kept;
+    }
+}
+
+/* ---- edits ---- */
+
+static void put_height(struct cell *cell, uint64_t column, uint64_t post, int64_t height) {
+    uint8_t *word = cell->grid + 2 * (column * cell->posts + post);
+    word[0] = (uint8_t)((uint64_t)height >> 8 & 0xFF);
+    word[1] = (uint8_t)((uint64_t)height & 0xFF);
+}
+
+/* The bytes are the same headers and the columns written afresh from the edited grid. */
+static void expect_afresh(struct cell *cell) {
+    for (size_t k = 0; k < cell->columns; k++)
+        second_write_column(cell->bytes + CELL_HEADERS + k * cell->column_bytes, cell->column_bytes,
+                            (uint64_t)cell->items[DTED_LEVEL], k, cell->grid + 2 * k * cell->posts, 2 * cell->posts);
+    expect("columns written afresh", memcmp(both_cell(), cell->bytes, cell->length) != 0, 0);
+}
+
+static void edit_often(struct random *random, struct cell *cell, int edits) {
+    bool voids = cell->items[DTED_PARTIAL] != 0;
+    both_lend(cell->bytes, cell->length);
+    for (int i = 0; i < edits; i++) {
+        uint64_t column = any_column(random, cell), post = any_post(random, cell);
+        int64_t height = any_height(random);
+        bool allowed = (height >= -12000 && height <= 9000) || (voids && height == DTED_VOID);
+        uint64_t due = column >= cell->columns || post >= cell->posts ? 8 : allowed ? 0 : 11;
+        expect("edit", both_edit(column, post, height), due << 56);
+        if (due == 0) {
+            put_height(cell, column, post, height);
+            expect("an edited height", (uint64_t)dted_height(both_post(column, post)), (uint64_t)height);
+        }
+    }
+    expect_afresh(cell);
+    expect("intake after edits", dted_number(both_intake()), 0);
+}
+
+/* ---- writers ---- */
+
+static size_t near_length(struct random *random, size_t due) {
+    switch (random_below(random, 20)) {
+    case 0: return 0;
+    case 1: return due - 1;
+    case 2: return due + 1;
+    case 3: return due - 2;
+    case 4: return due + 2;
+    case 5: return random_below(random, due);
+    default: return due;
+    }
+}
+
+static size_t near_room(struct random *random, size_t due) {
+    switch (random_below(random, 12)) {
+    case 0: return due - 1;
+    case 1: return random_below(random, due);
+    case 2: return 0;
+    case 3: return due + 1;
+    case 4: return due + random_below(random, 4000);
+    default: return due;
+    }
+}
+
+/* What was written is read back: the description, posts, and each column as the column writer makes it. */
+static void read_back(struct random *random, struct cell *cell) {
+    int64_t items[CELL_ITEMS];
+    both_lend(both_out(), cell->length);
+    uint64_t intake = both_intake();
+    both_describe(items);
+    expect_whole(cell, intake, items);
+    look_up(random, cell);
+    for (int i = 0; i < 4; i++) {
+        size_t k = random_below(random, cell->columns);
+        both_write_column(cell->column_bytes, false, (uint64_t)items[DTED_LEVEL], k, cell->grid + 2 * k * cell->posts,
+                          2 * cell->posts);
+        expect("a column written alone",
+               memcmp(both_out(), both_cell() + CELL_HEADERS + k * cell->column_bytes, cell->column_bytes) != 0, 0);
+    }
+    if (cell->columns == 21 && random_one_in(random, 8))
+        for (uint64_t i = 0; i < 21 * 121; i++) {
+            uint64_t answer = both_post(i / 121, i % 121);
+            expect("each height", (uint64_t)dted_height(answer), (uint64_t)height_made(cell, i / 121, i % 121));
+        }
+}
+
+static void spoil_heights(struct random *random, struct cell *cell) {
+    for (uint64_t count = random_below(random, 3); count > 0; count--) {
+        uint64_t kind = random_below(random, 4);
+        uint64_t column = kind == 0 ? cell->columns - 1 : random_below(random, cell->columns);
+        put_height(cell, column, kind < 2 ? cell->posts - 1 : random_below(random, cell->posts), any_height(random));
+    }
+}
+
+static void write_any(struct random *random, struct cell *cell) {
+    int64_t items[CELL_ITEMS];
+    memcpy(items, cell->items, sizeof items);
+    for (uint64_t count = random_one_in(random, 3) ? random_below(random, 3) : 0; count > 0; count--) {
+        uint64_t item = random_below(random, CELL_ITEMS);
+        items[item] = random_odd_number(random, items[item]);
+    }
+    size_t room = near_room(random, cell->length), bytes = near_length(random, cell->grid_bytes);
+    uint64_t answer = both_write(room, random_one_in(random, 2), items, cell->grid, bytes);
+    if (dted_number(answer) == 0 && memcmp(items, cell->items, sizeof items) == 0)
+        read_back(random, cell);
+}
+
+static void write_columns(struct random *random) {
+    static const size_t posts[] = {121, 1201, 3601};
+    uint8_t grid[2 * 3601 + 2];
+    for (int i = 0; i < 8; i++) {
+        uint64_t level = random_below(random, 3), zone_one = posts[level];
+        size_t due = 2 * posts[level];
+        cell_heights(random, true, grid, 3602);
+        if (random_one_in(random, 3)) {
+            size_t at = random_below(random, posts[level]);
+            grid[2 * at] = (uint8_t)random_next(random);
+            grid[2 * at + 1] = (uint8_t)random_next(random);
+        }
+        uint64_t number = random_one_in(random, 6) ? random_odd_index(random, 7) : random_below(random, zone_one + 1);
+        uint64_t told = random_one_in(random, 10) ? random_odd_index(random, level) : level;
+        both_write_column(near_room(random, due + 12), random_one_in(random, 2), told, number, grid, near_length(random, due));
+    }
+}
+
+/* ---- cases from the seed ---- */
+
+enum kind { DAMAGED, WHOLE, EDITS, WRITE, COLUMNS };
+static const char *const kind_names[] = {"reading", "reading", "edits", "writing", "single columns"};
+
+struct plan {
+    uint64_t number;
+    enum kind kind;
+    int64_t level;
+    bool whole_cell; /* and not some columns of it */
+};
+
+/* Six of ten cases are damaged cells. One in 60 is a whole cell of level 1, three in 6,000 of level 2: read, edited, written. */
+static struct plan plan_of(uint64_t number) {
+    static const enum kind kinds[10] = {DAMAGED, EDITS, DAMAGED, WRITE, DAMAGED, WHOLE, DAMAGED, COLUMNS, DAMAGED, DAMAGED};
+    struct plan plan = {number, kinds[number % 10], 0, true};
+    if (number % 6000 == 3000 || number % 6000 == 3001 || number % 6000 == 3003)
+        plan.level = 2;
+    else if (number % 60 == 30 + number / 60 % 10)
+        plan.level = 1;
+    else if (plan.kind == DAMAGED && number % 4 == 0) {
+        plan.level = number % 8 == 0 ? 1 : 2;
+        plan.whole_cell = false;
+    }
+    return plan;
+}
+
+static struct cell cell, kept;
+
+static void keep_cell(struct cell *to, const struct cell *from) {
+    uint8_t *grid = realloc(to->grid, from->grid_bytes + 2), *bytes = realloc(to->bytes, from->room);
+    if (grid == NULL || bytes == NULL) {
+        perror("realloc");
+        exit(2);
+    }
+    *to = *from;
+    to->grid = grid;
+    to->bytes = bytes;
+    memcpy(grid, from->grid, from->grid_bytes + 2);
+    memcpy(bytes, from->bytes, from->length);
+}
+
+static void run_kind(enum kind kind, struct random random) {
+    if (kind == DAMAGED || kind == WHOLE)
+        judge_and_read(&random, &cell);
+    if (kind == WHOLE && cell.whole)
+        replace_bytes(&random, &cell);
+    if (kind == EDITS)
+        edit_often(&random, &cell, cell.posts == 121 ? 40 : 12);
+    if (kind == WRITE)
+        write_any(&random, &cell);
+    if (kind == COLUMNS)
+        write_columns(&random);
+}
+
+/* The same case twice: the untouchable page stands before the lent bytes, then after them. */
+static void seeded_case(const void *context) {
+    const struct plan *plan = context;
+    struct random random = random_of_case(seed, plan->number);
+    int64_t items[CELL_ITEMS];
+    cell_items(&random, plan->level, items);
+    if (plan->kind != COLUMNS) {
+        cell_make(&random, items, plan->whole_cell ? SIZE_MAX : random_below(&random, 6), &cell);
+        if (plan->kind == DAMAGED)
+            cell_damage(&random, &cell);
+        if (plan->kind == WRITE && random_one_in(&random, 2))
+            spoil_heights(&random, &cell);
+        keep_cell(&kept, &cell);
+    }
+    for (int i = 0; i < 2; i++) {
+        name_case("level %d, %s, %s, at the pages' %s", (int)plan->level, kind_names[plan->kind],
+                  plan->kind == COLUMNS ? "no cell" : cell.damage, i == 0 ? "start" : "end");
+        both_side(i == 0 ? AT_START : AT_END);
+        if (i == 1 && plan->kind != COLUMNS)
+            keep_cell(&cell, &kept);
+        run_kind(plan->kind, random);
+    }
+}
+
+static uint64_t number_of(const char *text) {
+    char *end;
+    uint64_t number = strtoull(text, &end, 0);
+    if (*text == '\0' || *end != '\0') {
+        fprintf(stderr, "compare [SEED [CASES]]: '%s' is no number\n", text);
+        exit(2);
+    }
+    return number;
+}
+
+int main(int count, char **texts) {
+    seed = count > 1 ? number_of(texts[1]) : (uint64_t)time(NULL);
+    uint64_t cases = count > 2 ? number_of(texts[2]) : CASES;
+    printf("seed %" PRIu64 "\n", seed);
+    fflush(stdout);
+    both_open();
+    catch_signals();
+    run_fixed_cases();
+    for (uint64_t number = 0; number < cases; number++) {
+        struct plan plan = plan_of(number);
+        run_case(seeded_case, &plan);
+    }
+    cell_free(&cell);
+    cell_free(&kept);
+    printf("%" PRIu64 " passed, %" PRIu64 " failed\n", passed, failed);
+    return failed == 0 ? 0 : 1;
+}

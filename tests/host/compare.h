@@ -1,0 +1,19 @@
+/* compare.h - numbered cases, and what the parts of the test program share. */
+#ifndef COMPARE_H
+#define COMPARE_H
+
+#include <stdint.h>
+
+/* Runs one case, counts it, and reports the first difference in it, a fault, or that it did not end. */
+void run_case(void (*body)(const void *), const void *context);
+
+/* Names the running case for its report. */
+void name_case(const char *format, ...);
+
+/* A difference to what the paper or the case's making says. */
+void expect(const char *what, uint64_t library, uint64_t due);
+
+/* The cases that need no seed: the paper's examples, and every header byte and number in turn. */
+void run_fixed_cases(void);
+
+#endif
