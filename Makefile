@@ -1,6 +1,6 @@
 # make check: the whole test command. make run: the intake program on a shipped cell.
 # make lib: the C library. make install, uninstall: library, header, program and manual pages. make examples: examples/.
-.PHONY: check run fmt lib install uninstall examples picture
+.PHONY: check run fmt lib install uninstall examples picture host fuzz
 
 check:
 	@tools/check
@@ -80,3 +80,13 @@ target/examples/%: examples/%.c examples/files.h include/dted.h $(ARCHIVE)
 picture: target/examples/relief
 	tools/x86-64 $< cells/terrain.dt0 target/relief.pgm 2
 	tools/png 4 <target/relief.pgm >docs/relief.png
+
+# ---- tests of the C library ----
+
+# SEED and CASES choose others
+host: lib
+	@$(MAKE) -s -C tests/host check
+
+# a bounded run of libFuzzer over every call
+fuzz: lib
+	@$(MAKE) -s -C tests/host fuzz

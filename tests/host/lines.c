@@ -1,9 +1,11 @@
 /* lines.c - what the intake program must print, by the second reader; and files to try both on.
  *
  * lines FILE                    prints `accepted LEVEL COLUMNS POSTS` or `refused NO PLACE` of the file.
+ * lines --drip FILE             writes the file to standard output, a byte at a time.
  * lines --make DIR SEED N       writes N cells, whole and damaged, as DIR/0000.cell and so on.
  * lines --inputs DIR SEED N     writes N first inputs for the fuzzer, as DIR/0000.
  */
+#define _POSIX_C_SOURCE 200809L
 #include "cells.h"
 #include "second.h"
 
@@ -11,6 +13,7 @@
 #include <stdio.h>
 #include <stdlib.h>
 #include <string.h>
+#include <unistd.h>
 
 static void give_up(const char *what) {
     perror(what);
@@ -99,6 +102,16 @@ static void make_inputs(const char *folder, uint64_t seed, uint64_t files) {
     cell_free(&cell);
 }
 
+/* A file on standard output, a byte at a time. */
+static void drip(const char *name) {
+    size_t length;
+    uint8_t *bytes = read_file(name, &length);
+    for (size_t i = 0; i < length; i++)
+        if (write(STDOUT_FILENO, bytes + i, 1) != 1)
+            break; /* who reads has seen enough */
+    free(bytes);
+}
+
 static uint64_t number_of(const char *text) {
     char *end;
     uint64_t number = strtoull(text, &end, 0);
@@ -116,8 +129,10 @@ int main(int count, char **texts) {
         make_files(texts[2], number_of(texts[3]), number_of(texts[4]));
     else if (count == 5 && strcmp(texts[1], "--inputs") == 0)
         make_inputs(texts[2], number_of(texts[3]), number_of(texts[4]));
+    else if (count == 3 && strcmp(texts[1], "--drip") == 0)
+        drip(texts[2]);
     else {
-        fputs("lines FILE, lines --make DIR SEED N, or lines --inputs DIR SEED N\n", stderr);
+        fputs("lines FILE, lines --drip FILE, lines --make DIR SEED N, or lines --inputs DIR SEED N\n", stderr);
         return 2;
     }
     return 0;
