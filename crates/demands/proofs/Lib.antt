@@ -3,4 +3,9 @@ pub mod Examples
 pub mod WrittenCells
 pub mod EditedCells
 pub mod PlacesFit
+pub mod HostFits
 pub mod Settled
+pub mod HostSettled
+pub mod HostAnswers
+pub mod HostWrites
+pub mod HostEdits

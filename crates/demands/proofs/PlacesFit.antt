@@ -61,7 +61,7 @@ Fits (voidAt column post) = (column < 65536) × (post < 65536)
 Fits done = Unit
 
 -- the longest cell: no offset in a file that is judged lies past it
-abbrev most : ℕ
+abbrev pub most : ℕ
 most = 25981042
 
 -- a refusal fits where its place is not past that
@@ -87,7 +87,7 @@ headers-by s _ (breaks i f) r e =
     subst (λ (x : Refusal). placeTold (numbered x) ≤ most) same (omega (arith, row i (f .below) .within))
 headers-by s _ (good f) r e = let z : _≡_ {A = ℕ} 0 1 = cc in absurd (omega arith)
 
-headers-fit : (s : List ℕ) (r : Refusal) → judged s ≡ headers.Refused r → Fits (numbered r)
+pub headers-fit : (s : List ℕ) (r : Refusal) → judged s ≡ headers.Refused r → Fits (numbered r)
 headers-fit s r e = numbered-fits r (headers-by s (judged s) (answered s) r e)
 
 -- a refusal of a column has its place in it
@@ -208,12 +208,12 @@ unfolding editTold
 edit-fits s c p z = edit-by s c p z (judgedEdit s c p z) (editing.row s c p z)
 
 -- the writers
-given-by : (posts bytes : ℕ) (voids : Bool) (zs : List ℤ) (room : ℕ) → posts ≤ most → bytes ≤ most
+pub given-fits : (posts bytes : ℕ) (voids : Bool) (zs : List ℤ) (room : ℕ) → posts ≤ most → bytes ≤ most
     → (x : Outcome) → GivenRow posts bytes voids zs room x → Fits (told act x)
-given-by posts bytes voids zs room hp hb _ (differs e) = (lit< tt, omega arith)
-given-by posts bytes voids zs room hp hb _ (not-held l n h bad f) = (lit< tt, omega arith)
-given-by posts bytes voids zs room hp hb _ (no-room l f h) = (lit< tt, omega arith)
-given-by posts bytes voids zs room hp hb _ (fine l f h) = tt
+given-fits posts bytes voids zs room hp hb _ (differs e) = (lit< tt, omega arith)
+given-fits posts bytes voids zs room hp hb _ (not-held l n h bad f) = (lit< tt, omega arith)
+given-fits posts bytes voids zs room hp hb _ (no-room l f h) = (lit< tt, omega arith)
+given-fits posts bytes voids zs room hp hb _ (fine l f h) = tt
 
 column-by : (level number : ℕ) (zs : List ℤ) (room : ℕ) (x : Outcome) → column.ColumnRow level number zs room x → Fits (told act x)
 unfolding gridOf
@@ -221,8 +221,8 @@ column-by level number zs room _ (column.level-past h) = (lit< tt, lit< tt)
 column-by level number zs room _ (column.number-past h u) = (lit< tt, lit< tt)
 column-by level number zs room x (column.then-given _ h u r) =
     let g = ranged level 0 h (lit< tt) in
-    given-by (postsOf level) (columnBytes (postsOf level)) true zs room (omega (arith, g .posts-high)) (omega (arith, g .posts-high)) x r
+    given-fits (postsOf level) (columnBytes (postsOf level)) true zs room (omega (arith, g .posts-high)) (omega (arith, g .posts-high)) x r
 
-pub column-fits-told : (level number : ℕ) (zs : List ℤ) (out : List ℕ) → Fits (columnTold level number zs out)
+pub write-column-fits : (level number : ℕ) (zs : List ℤ) (out : List ℕ) → Fits (columnTold level number zs out)
 unfolding columnTold
-column-fits-told level number zs out = column-by level number zs (length out) _ (column.row level number zs (length out))
+write-column-fits level number zs out = column-by level number zs (length out) _ (column.row level number zs (length out))

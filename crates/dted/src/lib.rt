@@ -1,5 +1,5 @@
 // The library as a C host links it: include/dted.h says what each call is for. Each packs the answer of the function below it.
-mod cells;
-mod descriptions;
-mod grids;
-mod writers;
+pub mod cells;
+pub mod descriptions;
+pub mod grids;
+pub mod writers;

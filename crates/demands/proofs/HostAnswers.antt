@@ -1,0 +1,43 @@
+-- An act answers a C host 0 exactly where it was done.
+use native.Mathlib.Omega.{arith}
+use mathlib.Core.Path.{_≡_, refl, sym, ap, _∙_}
+use mathlib.Core.Bool.{Bool, true, false}
+use lib.Dec.{eqb}
+use borrow.Author.Tests.{eq-eqb, ne-eqb}
+use Rattle.answers.specs.Told.{numbered, told, act}
+use Rattle.answers.specs.declared.Refusal.{Refusal}
+use Rattle.answers.specs.declared.Refusal.the-variants as because
+use Rattle.answers.specs.declared.Outcome.{Outcome}
+use Rattle.answers.specs.declared.Outcome.the-variants.{Done, Refused}
+use Rattle.packing.specs.Packed.{packed, refusal}
+
+-- no refusal is answered as 0
+never-0 : (r : Refusal) → packed (numbered r) ≡ 0 → ⊥
+unfolding packed
+never-0 (because.Short n) e = omega arith
+never-0 (because.Field n) e = omega arith
+never-0 (because.Cut n) e = omega arith
+never-0 (because.Preamble n) e = omega arith
+never-0 (because.Checksum n) e = omega arith
+never-0 (because.Word n) e = omega arith
+never-0 (because.Surplus n) e = omega arith
+never-0 because.OffGrid e = omega arith
+never-0 (because.Item n) e = omega arith
+never-0 (because.GridLength n) e = omega arith
+never-0 (because.Height n) e = omega arith
+never-0 (because.Room n) e = omega arith
+
+-- an act answers 0 exactly where it was done
+pub was-done : (x : Outcome) → packed (told act x) ≡ 0 → x ≡ Done
+was-done Done e = refl
+was-done (Refused r) e = absurd (never-0 r e)
+
+done-0 : packed (told act Done) ≡ 0
+unfolding packed
+done-0 = refl
+
+-- an act that was judged so answers 0 exactly where it was done
+pub answer-is : (x : Outcome) (t : Bool) → (x ≡ Done → t ≡ true) × (t ≡ true → x ≡ Done) → eqb (packed (told act x)) 0 ≡ t
+answer-is Done t e = eq-eqb (packed (told act Done)) 0 done-0 ∙ sym (e .0 refl)
+answer-is (Refused r) true e = absurd (never-0 r (ap (λ (x : Outcome). packed (told act x)) (e .1 refl) ∙ done-0))
+answer-is (Refused r) false e = ne-eqb (packed (numbered r)) 0 (never-0 r)

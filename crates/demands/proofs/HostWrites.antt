@@ -1,0 +1,82 @@
+-- D2 for a C host: what a call of the writer leaves, where it answered 0, is read back whole by any later call.
+use Prim.Native.Nat.{ℕ, _<_}
+use mathlib.Core.Path.{_≡_, sym, ap, _∙_}
+use mathlib.Core.List.{List, _++_}
+use lib.IntN.{ℤ}
+use lib.ListN.{length, drop}
+use contract.Lifetimes as L
+use denote.Ref.{now}
+use borrow.Fn.Kinds as K
+use Rattle.answers.specs.Told.{accepted}
+use Rattle.answers.specs.declared.Outcome.{Outcome}
+use Rattle.answers.specs.declared.Outcome.the-variants.{Done}
+use Rattle.packing.specs.Packed.{packed}
+use Rattle.describing.specs.Described.{described}
+use Rattle.describing.specs.declared.Described.{Described}
+use Rattle.reading.specs.Intake.{taken}
+use Rattle.reading.specs.Lookup.{lookedUp}
+use Rattle.writing.specs.Cell.{factsFor, cellOf}
+use Rattle.writing.specs.Given.{outputAfter}
+use Rattle.writing.specs.Grid.{heightAt, saidOf}
+use Rattle.writing.proofs.Restores.{restored-description, restored-accepted, restored-post}
+use Rattle.hosting.specs.Words.{heightsIn}
+use Rattle.hosting.specs.Items.{descriptionOf}
+use Rattle.hosting.specs.Cell.{judgedBytes, bytesTold, bytesOutput}
+use Rattle.hosting.proofs.BytesExactly.{Ready, ready}
+use Rattle.hosting.proofs.ItemNumbers.{in-range, description-back}
+use Rattle.dted.specs.Description.{itemsAfter}
+use Rattle.dted.proofs.cells.dted_intake.Reads as intake
+use Rattle.dted.proofs.cells.dted_intake.Kinds as intake-kinds
+use Rattle.dted.proofs.cells.dted_post.Reads as post
+use Rattle.dted.proofs.cells.dted_post.Kinds as post-kinds
+use Rattle.dted.proofs.descriptions.dted_describe.Reads as describe
+use Rattle.dted.proofs.descriptions.dted_describe.Kinds as describe-kinds
+use Rattle.dted.proofs.writers.dted_write.Reads as write
+use Rattle.dted.proofs.writers.dted_write.Kinds as write-kinds
+use Rattle.demands.proofs.HostAnswers.{was-done}
+
+module _ (κs : L.Lfts 3) (a : K.Dens κs write-kinds.ps) (r : _) (s : _) (kept : write.Post κs a r s) (was : r ≡ 0) where
+  abbrev pub items : List ℤ
+  items = now (a .1 .0)
+
+  abbrev pub heights : List ℤ
+  heights = heightsIn (now (a .1 .1 .0))
+
+  -- the bytes that the call wrote
+  abbrev pub cell : List ℕ
+  cell = cellOf (descriptionOf items) heights
+
+  accepted-call : judgedBytes items (now (a .1 .1 .0)) (length (now (a .0))) ≡ Done
+  unfolding bytesTold
+  accepted-call = was-done (judgedBytes items (now (a .1 .1 .0)) (length (now (a .0)))) (sym (kept .0) ∙ was)
+
+  fine : Ready items (now (a .1 .1 .0)) (length (now (a .0)))
+  fine = ready items (now (a .1 .1 .0)) (length (now (a .0))) accepted-call
+
+  -- the output begins with them, and past them is as it was
+  pub written : now (s .0) ≡ cell ++ drop (length cell) (now (a .0))
+  unfolding bytesOutput
+  written = kept .1 ∙ ap (λ (x : Outcome). outputAfter x cell (now (a .0))) accepted-call
+
+  pub taken-back : (κs' : L.Lfts 1) (b : K.Dens κs' intake-kinds.ps) (q : _) (t : _) → now (b .0) ≡ cell → intake.Post κs' b q t
+      → q ≡ packed (accepted (factsFor (descriptionOf items) .grid .level) (factsFor (descriptionOf items) .grid .columns) (factsFor (descriptionOf items) .grid .posts))
+  taken-back κs' b q t same kept' =
+      let f = fine .fine .fine in
+      kept' ∙ ap (λ (l : List ℕ). packed (taken l)) same
+      ∙ ap packed (restored-accepted (descriptionOf items) (in-range items (fine .numbers)) heights (f .long) (f .held))
+
+  -- the thirteen numbers come back
+  pub described-back : length items ≡ 13 → (κs' : L.Lfts 2) (b : K.Dens κs' describe-kinds.ps) (q : _) (t : _) → now (b .0) ≡ cell → describe.Post κs' b q t
+      → now (t .1 .0) ≡ items
+  described-back thirteen κs' b q t same kept' =
+      kept' .1 ∙ ap (λ (l : List ℕ). itemsAfter (described l) (now (b .1 .0))) same
+      ∙ ap (λ (x : Described). itemsAfter x (now (b .1 .0))) (restored-description (descriptionOf items) (in-range items (fine .numbers)) heights)
+      ∙ description-back items thirteen (fine .numbers)
+
+  pub posts-back : (κs' : L.Lfts 1) (b : K.Dens κs' post-kinds.ps) (q : _) (t : _) → now (b .0) ≡ cell → post.Post κs' b q t
+      → b .1 .0 < factsFor (descriptionOf items) .grid .columns → b .1 .1 .0 < factsFor (descriptionOf items) .grid .posts
+      → q ≡ packed (saidOf (heightAt (factsFor (descriptionOf items) .grid .posts) heights (b .1 .0) (b .1 .1 .0)))
+  posts-back κs' b q t same kept' hc hp =
+      let f = fine .fine .fine in
+      kept' ∙ ap (λ (l : List ℕ). packed (lookedUp l (b .1 .0) (b .1 .1 .0))) same
+      ∙ ap packed (restored-post (descriptionOf items) (in-range items (fine .numbers)) heights (f .long) (f .held) (b .1 .0) (b .1 .1 .0) hc hp)
