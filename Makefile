@@ -1,6 +1,7 @@
 # make check: the whole test command. make run: the intake program on a shipped cell.
 # make lib: the C library. make install, uninstall: library, header, program and manual pages. make examples: examples/.
-.PHONY: check run fmt lib install uninstall examples picture host fuzz
+# make interop: the library against GDAL, which it installs; no part of make check.
+.PHONY: check run fmt lib install uninstall examples picture host fuzz interop
 
 check:
 	@tools/check
@@ -90,3 +91,9 @@ host: lib
 # a bounded run of libFuzzer over every call
 fuzz: lib
 	@$(MAKE) -s -C tests/host fuzz
+
+# ---- the library against GDAL ----
+
+# another archive: make interop ARCHIVE=path
+interop:
+	@tests/interop/run
