@@ -1,7 +1,8 @@
 # make check: the whole test command. make run: the intake program on a shipped cell.
 # make lib: the C library. make install, uninstall: library, header, program and manual pages. make examples: examples/.
 # make interop: the library against GDAL, which it installs; no part of make check.
-.PHONY: check run fmt lib install uninstall examples picture host fuzz interop
+# make host, fuzz: the library against a second reader and writer in C. make bench: the library measured beside plain C and others.
+.PHONY: check run fmt lib install uninstall examples picture host fuzz interop bench
 
 check:
 	@tools/check
@@ -97,3 +98,37 @@ fuzz: lib
 # another archive: make interop ARCHIVE=path
 interop:
 	@tests/interop/run
+# ---- the measurements ----
+
+# native programs, so with a compiler for this machine; elsewhere than on x86-64 the proved module is compiled for it
+BENCH_CC ?= cc
+SECOND_CC ?= $(shell command -v clang)
+GDAL_CFLAGS ?= $(shell pkg-config --cflags gdal 2>/dev/null)
+GDAL_LIBS ?= $(shell pkg-config --libs gdal 2>/dev/null)
+BENCH_FLAGS := -std=c11 -Wall -Wextra -Wpedantic -Werror -O3 -Iinclude
+BENCH_PARTS := bench report plain limit same gdal_calls
+BENCH_OBJECTS = $(BENCH_PARTS:%=target/bench/%.o) $(if $(SECOND_CC),target/bench/second.o)
+ifeq ($(shell uname -m),x86_64)
+BENCH_ARCHIVE = $(ARCHIVE)
+else
+BENCH_ARCHIVE = target/bench/libdted.a
+endif
+
+bench: target/bench/bench
+	bench/run $<
+
+target/bench/bench: $(BENCH_OBJECTS) $(BENCH_ARCHIVE)
+	$(BENCH_CC) $^ $(GDAL_LIBS) -o $@
+
+target/bench/%.o: bench/%.c $(wildcard bench/*.h) include/dted.h
+	@mkdir -p $(@D)
+	$(BENCH_CC) $(BENCH_FLAGS) $(if $(SECOND_CC),-DWITH_SECOND) $(if $(GDAL_LIBS),-DWITH_GDAL $(GDAL_CFLAGS:-I%=-isystem %)) -c $< -o $@
+
+# plain.c by another compiler, under other names
+target/bench/second.o: bench/plain.c bench/plain.h include/dted.h
+	@mkdir -p $(@D)
+	$(SECOND_CC) $(BENCH_FLAGS) $(foreach call,intake post edit write compiler,-Dplain_$(call)=second_$(call)) -c $< -o $@
+
+target/bench/libdted.a:
+	@mkdir -p $(@D)
+	bench/native $@

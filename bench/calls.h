@@ -1,0 +1,23 @@
+/* calls.h - a set of calls to be compared and measured: the library's, or those of plain.h. */
+#ifndef CALLS_H
+#define CALLS_H
+
+#include "dted.h"
+
+struct calls {
+    const char *name;
+    uint64_t (*intake)(const uint8_t *cell, size_t length);
+    uint64_t (*post)(const uint8_t *cell, size_t length, uint64_t column, uint64_t post);
+    uint64_t (*edit)(uint8_t *cell, size_t length, uint64_t column, uint64_t post, int64_t height);
+    uint64_t (*write)(uint8_t *out, size_t room, const int64_t *items, const uint8_t *grid, size_t bytes);
+};
+
+/* The next number of a row that its seed fixes; the seed is not 0. */
+static inline uint64_t next_random(uint64_t *seed) {
+    *seed ^= *seed << 13;
+    *seed ^= *seed >> 7;
+    *seed ^= *seed << 17;
+    return *seed * UINT64_C(2685821657736338717) >> 16;
+}
+
+#endif

@@ -1,0 +1,230 @@
+/* same.c - see same.h. The small cells are of level 0; every choice comes from a fixed seed. */
+#include "same.h"
+
+#include <inttypes.h>
+#include <stdio.h>
+#include <stdlib.h>
+#include <string.h>
+
+enum { SMALL_ROOM = 34162, SMALL_GRID = 2 * 121 * 121, TRIES = 20000 };
+
+static const struct calls *one, *two;
+static size_t compared;
+static uint64_t seed;
+
+/* A small cell with its grid, and what both sets of calls made of it. */
+static int64_t items[DTED_ITEMS];
+static uint8_t grid[SMALL_GRID + 2], first[SMALL_ROOM + 2], second[SMALL_ROOM + 2];
+static size_t length, columns, column_bytes;
+
+static uint64_t below(uint64_t most) { return next_random(&seed) % most; }
+
+static void differ(const char *what) {
+    fprintf(stderr, "%s and %s differ: %s\n", one->name, two->name, what);
+    exit(1);
+}
+
+static void same(uint64_t a, uint64_t b, const char *what) {
+    compared++;
+    if (a == b)
+        return;
+    fprintf(stderr, "%016" PRIx64 " %016" PRIx64 "\n", a, b);
+    differ(what);
+}
+
+static void same_bytes(const uint8_t *a, const uint8_t *b, size_t bytes, const char *what) {
+    compared++;
+    if (memcmp(a, b, bytes) != 0)
+        differ(what);
+}
+
+static void same_intake(const uint8_t *cell, size_t bytes) {
+    same(one->intake(cell, bytes), two->intake(cell, bytes), "intake");
+}
+
+static void same_post(const uint8_t *cell, size_t bytes, uint64_t column, uint64_t post) {
+    same(one->post(cell, bytes, column, post), two->post(cell, bytes, column, post), "post");
+}
+
+/* ---- small cells, written ---- */
+
+/* A height near an edge of its range or anywhere, and at times one that is not allowed. */
+static int some_height(void) {
+    static const int edges[] = {-12000, 9000, 0, -1, 1, -12001, 9001, -32768, DTED_VOID, 32767};
+    return below(8) ? (int)below(21001) - 12000 : edges[below(10)];
+}
+
+static int good_height(int voids) {
+    int height = some_height();
+    if (height == DTED_VOID && voids)
+        return height;
+    return height < -12000 || height > 9000 ? 7 : height;
+}
+
+static void some_items(int latitude) {
+    static const char letters[] = "SCUR";
+    items[DTED_LEVEL] = 0;
+    items[DTED_LATITUDE] = latitude;
+    items[DTED_LONGITUDE] = below(4) ? (int)below(360) - 180 : (int)(179 * below(2)) - (int)(180 * below(2));
+    items[DTED_SECURITY] = letters[below(4)];
+    items[DTED_EDITION] = 1 + (int)below(99);
+    items[DTED_MATCH_VERSION] = 'A' + (int)below(26);
+    items[DTED_DATUM] = (int)below(2);
+    for (int i = DTED_ACCURACY; i <= DTED_RELATIVE_VERTICAL; i++)
+        items[i] = (int)below(10001) - 1;
+    items[DTED_PARTIAL] = below(2) ? (int)below(100) : 0;
+}
+
+static void same_write(size_t room, size_t bytes) {
+    memset(first, 0x5A, sizeof first);
+    memset(second, 0x5A, sizeof second);
+    same(one->write(first, room, items, grid, bytes), two->write(second, room, items, grid, bytes), "write");
+    same_bytes(first, second, sizeof first, "written bytes");
+}
+
+/* Makes a good small cell, by both. */
+static void make_small(int latitude) {
+    some_items(latitude);
+    uint64_t laid = dted_grid(0, latitude);
+    columns = dted_columns(laid);
+    column_bytes = dted_column_length(laid);
+    length = dted_cell_length(laid);
+    for (size_t i = 0; i < columns * dted_posts(laid); i++)
+        dted_put_height(grid + 2 * i, good_height(items[DTED_PARTIAL] != 0));
+    same_write(length, 2 * columns * dted_posts(laid));
+    same_intake(first, length);
+    if (dted_number(one->intake(first, length)) != DTED_OK)
+        differ("a written cell is refused");
+}
+
+/* Writes that mostly are refused: an item, the grid's length, a height, the room. */
+static void compare_refused_writes(void) {
+    for (int i = 0; i < TRIES / 10; i++) {
+        int latitude = (int)below(180) - 90;
+        make_small(latitude);
+        size_t bytes = 2 * columns * 121;
+        if (!below(3))
+            items[below(DTED_ITEMS)] += (int64_t)below(400) - 200;
+        if (!below(4))
+            items[below(DTED_ITEMS)] = (int64_t)(next_random(&seed) << 16);
+        if (!below(3))
+            dted_put_height(grid + 2 * below(columns * 121), some_height());
+        same_write(length - !below(3), bytes + (below(3) ? 0 : below(3)) - (below(3) ? 0 : below(3)));
+    }
+}
+
+/* Each item at the ends of its range and just past them. */
+static void compare_items(void) {
+    static const int values[] = {-181, -180, -91, -90, -2, -1, 0, 1, 2, 3, 64, 65, 83, 90, 91, 89, 98, 99, 100, 179, 180, 9999, 10000};
+    for (int i = 0; i < DTED_ITEMS; i++)
+        for (size_t k = 0; k < sizeof values / sizeof *values; k++) {
+            make_small(0);
+            items[i] = values[k];
+            same_write(sizeof first, 2 * columns * 121);
+        }
+}
+
+/* ---- damage ---- */
+
+static void compare_headers(void) {
+    static const uint8_t values[] = {'0', '1', '9', ' ', '/', ':', 'A', 'Z', 'N', 'S', 'E', 'W', 0, 255};
+    for (size_t at = 0; at < DTED_HEADER_BYTES; at++)
+        for (size_t i = 0; i < sizeof values; i++) {
+            uint8_t was = first[at];
+            first[at] = values[i];
+            same_intake(first, DTED_HEADER_BYTES + 1);
+            first[at] = was;
+        }
+}
+
+static void put_sum(uint8_t *column) {
+    uint32_t sum = 0;
+    for (size_t i = 0; i < column_bytes - 4; i++)
+        sum += column[i];
+    for (size_t i = 0; i < 4; i++)
+        column[column_bytes - 1 - i] = (uint8_t)(sum >> 8 * i);
+}
+
+/* One byte or word of a column changed, its checksum at times made right again, and what then is answered. */
+static void compare_damage(void) {
+    static const unsigned words[] = {0x2328, 0x2329, 0xAEE0, 0xAEE1, 0x8000, 0x8001, 0xFFFF, 0x7FFF, 0xFFFE};
+    size_t k = below(columns), at = below(column_bytes - 1);
+    uint8_t *column = first + DTED_HEADER_BYTES + k * column_bytes;
+    if (below(2)) {
+        column[at] = (uint8_t)below(256);
+    } else {
+        unsigned word = words[below(9)];
+        at = 8 + 2 * below(121);
+        column[at] = (uint8_t)(word >> 8);
+        column[at + 1] = (uint8_t)word;
+    }
+    if (below(4))
+        put_sum(column);
+    same_intake(first, length);
+    same_post(first, length, k, below(123));
+    memcpy(first, second, length);
+}
+
+static void compare_cuts(void) {
+    size_t bytes = below(8) ? below(length + 3) : DTED_HEADER_BYTES - below(2);
+    same_intake(first, bytes);
+    same_post(first, bytes, below(columns + 2), below(123));
+    same_post(first, bytes, next_random(&seed) << 16, next_random(&seed) << 16);
+}
+
+static void compare_edits(void) {
+    uint64_t column = below(columns + 1), post = below(122);
+    int64_t height = below(8) ? some_height() : (int64_t)(next_random(&seed) << 16);
+    same(one->edit(first, length, column, post, height), two->edit(second, length, column, post, height), "edit");
+    same_bytes(first, second, length, "edited bytes");
+}
+
+/* ---- the large cell ---- */
+
+/* Its first column all void, which has the largest sum, and the cell partial. */
+static void compare_voids(uint8_t *spare, size_t bytes) {
+    uint8_t *column = spare + DTED_HEADER_BYTES;
+    memcpy(spare + 369, "01", 2);
+    memset(column + DTED_PREAMBLE_BYTES, 0xFF, column_bytes - 12);
+    put_sum(column);
+    same_intake(spare, bytes);
+    if (dted_number(one->intake(spare, bytes)) != DTED_OK)
+        differ("a partial cell is refused");
+}
+
+static void compare_large(const uint8_t *cell, uint8_t *spare, size_t bytes) {
+    uint64_t answer = one->intake(cell, bytes);
+    same_intake(cell, bytes);
+    for (int i = 0; i < TRIES / 10; i++)
+        same_post(cell, bytes, below(dted_columns(answer)), below(dted_posts(answer)));
+    memcpy(spare, cell, bytes);
+    column_bytes = dted_column_length(answer);
+    for (size_t at = 1; at <= 16; at++) {
+        spare[bytes - at] ^= 0x80;
+        same_intake(spare, bytes);
+        spare[bytes - at] ^= 0x80;
+    }
+    compare_voids(spare, bytes);
+}
+
+size_t compare(const struct calls *a, const struct calls *b, const uint8_t *large, uint8_t *spare, size_t bytes) {
+    one = a;
+    two = b;
+    compared = 0;
+    seed = 20261115;
+    compare_items();
+    compare_refused_writes();
+    for (int latitude = -90; latitude <= 89; latitude++) {
+        make_small(latitude);
+        if (latitude % 20 == 0)
+            compare_headers();
+        for (int i = 0; i < TRIES / 180; i++) {
+            compare_damage();
+            compare_cuts();
+        }
+        for (int i = 0; i < TRIES / 180; i++)
+            compare_edits();
+    }
+    compare_large(large, spare, bytes);
+    return compared;
+}

@@ -1,0 +1,11 @@
+/* same.h - whether two sets of calls answer alike and leave the same bytes. */
+#ifndef SAME_H
+#define SAME_H
+
+#include "calls.h"
+
+/* Compares them on many small cells, good, damaged, cut and edited, and on this large one; gives the number of comparisons.
+ * The program ends with a message where they differ. `spare` has room for the large cell. */
+size_t compare(const struct calls *a, const struct calls *b, const uint8_t *large, uint8_t *spare, size_t length);
+
+#endif
