@@ -98,6 +98,7 @@ fuzz: lib
 # another archive: make interop ARCHIVE=path
 interop:
 	@tests/interop/run
+
 # ---- the measurements ----
 
 # native programs, so with a compiler for this machine; elsewhere than on x86-64 the proved module is compiled for it
