@@ -273,6 +273,9 @@ static void plan_all(void) {
     plan("intake", "read-only pass", 1, read_cell);
     if (gdal_version())
         plan("intake", "GDAL", 1, gdal_all);
+    plan_sets(STEP "headers", PICKS, early, turn_first);
+    plan_sets(STEP "sum", PICKS, early, turn_checksum);
+    plan_sets(STEP "words", PICKS, early, turn_second);
     plan_sets("post", PICKS, post, NULL);
     plan("post", "read-only pass", PICKS, read_columns);
     if (gdal_version())
@@ -284,9 +287,6 @@ static void plan_all(void) {
     plan("write", "copy", 1, copy_grid);
     if (gdal_version())
         plan("write", "GDAL", 1, gdal_whole);
-    plan_sets(STEP "headers", PICKS, early, turn_first);
-    plan_sets(STEP "sum", PICKS, early, turn_checksum);
-    plan_sets(STEP "words", PICKS, early, turn_second);
 }
 
 /* ---- the rounds ---- */

@@ -2,6 +2,7 @@
 #define _POSIX_C_SOURCE 200809L
 #include "laps.h"
 
+#include <math.h>
 #include <stdio.h>
 #include <stdlib.h>
 #include <string.h>
@@ -36,7 +37,7 @@ static const struct lap *find(const struct lap *laps, size_t count, const char *
 static double median(const struct lap *lap) { return 1e6 * spread_of(lap, NULL).middle; }
 
 /* How many places after the point a time is given with. */
-static int places(double time) { return time < 1 ? 3 : time < 100 ? 2 : 0; }
+static int places(double time) { return fabs(time) < 1 ? 3 : fabs(time) < 100 ? 2 : 0; }
 
 void print_acts(const struct lap *laps, size_t count) {
     printf("\n%-8s  %-16s  %10s  %17s  %12s  %s\n", "act", "who", "of plain C", "of read-only pass", "microseconds", "middle half");
@@ -51,26 +52,49 @@ void print_acts(const struct lap *laps, size_t count) {
     }
 }
 
-static void print_part(const char *who, const char *part, double time, double all) {
-    printf("%-16s  %-9s  %12.*f  %7.1f%%\n", who, part, places(time), time, 100 * time / all);
-}
+/* ---- the parts of intake ---- */
+
+/* The laps of one set of calls that tell intake's parts. */
+struct steps {
+    const struct lap *all, *headers, *sum, *words;
+    double columns;
+};
+
+enum part { HEADERS, SUMS, WORDS, REST, ALL, PARTS };
 
 /* Intakes that are refused one step later than each other differ by that step; what a whole intake takes beyond its headers and
  * its columns' two steps is memory that is waited for, since the early refusals find their column in the cache. */
+static double part_in(const struct steps *steps, enum part part, int round) {
+    double headers = steps->headers->seconds[round], all = steps->all->seconds[round];
+    double sums = (steps->sum->seconds[round] - headers) * steps->columns;
+    double words = (steps->words->seconds[round] - steps->sum->seconds[round]) * steps->columns;
+    const double value[PARTS] = {headers, sums, words, all - headers - sums - words, all};
+    return value[part];
+}
+
+static void print_part(const char *who, const struct steps *steps, enum part part) {
+    static const char *const names[PARTS] = {"headers", "byte sums", "words", "rest", "all"};
+    struct lap time, share;
+    for (int i = 0; i < ROUNDS; i++) {
+        time.seconds[i] = part_in(steps, part, i);
+        share.seconds[i] = time.seconds[i] / steps->all->seconds[i];
+    }
+    double middle = median(&time);
+    printf("%-16s  %-9s  %12.*f  %7.1f%%\n", who, names[part], places(middle), middle, 100 * spread_of(&share, NULL).middle);
+}
+
 void print_parts(const struct lap *laps, size_t count, const struct calls *sets, size_t set_count, size_t columns) {
     printf("\n%-16s  %-9s  %12s  %s\n", "intake by", "part", "microseconds", "share");
     for (size_t i = 0; i < set_count; i++) {
         const char *who = sets[i].name;
-        double all = median(find(laps, count, "intake", who)), headers = median(find(laps, count, STEP "headers", who));
-        double to_sum = median(find(laps, count, STEP "sum", who)), to_words = median(find(laps, count, STEP "words", who));
-        double sums = (to_sum - headers) * (double)columns, words = (to_words - to_sum) * (double)columns;
-        print_part(who, "headers", headers, all);
-        print_part(who, "byte sums", sums, all);
-        print_part(who, "words", words, all);
-        print_part(who, "rest", all - headers - sums - words, all);
-        print_part(who, "all", all, all);
+        struct steps steps = {find(laps, count, "intake", who), find(laps, count, STEP "headers", who), find(laps, count, STEP "sum", who),
+                              find(laps, count, STEP "words", who), (double)columns};
+        for (enum part part = HEADERS; part < PARTS; part++)
+            print_part(who, &steps, part);
     }
 }
+
+/* ---- what others had of the machine ---- */
 
 struct use machine_use(void) {
     double part[8] = {0};
