@@ -17,7 +17,7 @@ use Rattle.hosting.specs.Words.{heightsIn}
 use Rattle.hosting.specs.Items.{badNumber, descriptionOf}
 use Rattle.hosting.specs.Given.{judgedGiven}
 
--- 10, 11 and 12 under a description
+-- N10, N11, N12: under a description
 unfoldable pub judgedUnder : Description → List ℕ → ℕ → Outcome
 judgedUnder d grid room = judgedGiven (postsDue (factsFor d .grid)) (factsFor d .grid .bytes .cell) (voidsAllowed (factsFor d)) grid room
 
@@ -25,7 +25,7 @@ judgedUnder d grid room = judgedGiven (postsDue (factsFor d .grid)) (factsFor d 
 unfoldable pub judgedBytes : List ℤ → List ℕ → ℕ → Outcome
 judgedBytes items grid room = pick (eqb (badNumber items) 0) (judgedUnder (descriptionOf items) grid room) (Refused (Item (badNumber items)))
 
--- what is told of the call, and the output at its end
+-- W4, N15: what is told of the call, and the output at its end
 unfoldable pub bytesTold : List ℤ → List ℕ → List ℕ → Told
 bytesTold items grid out = told act (judgedBytes items grid (length out))
 

@@ -25,7 +25,7 @@ judgedColumnBytes level number posts room =
     (Refused OffGrid))
     (Refused (Item 1))
 
--- what is told of the call, and the output at its end
+-- X1, N15: what is told of the call, and the output at its end
 unfoldable pub columnBytesTold : ℕ → ℕ → List ℕ → List ℕ → Told
 columnBytesTold level number posts out = told act (judgedColumnBytes level number posts (length out))
 

@@ -14,21 +14,22 @@ use Rattle.describing.specs.declared.Datum.{Datum}
 use Rattle.describing.specs.declared.Datum.the-variants.{Msl, E96}
 use Rattle.describing.specs.declared.Description.{Description}
 
+-- W2: the item at an index; one that is not there counts as 0
 abbrev pub item : List ℤ → ℕ → ℤ
 item zs i = getD zs i (pos 0)
 
--- a number in a range, ends included, and this number alone
+-- W2: a number in a range, ends included, and this number alone
 abbrev pub between : ℤ → ℤ → ℤ → Bool
 between low high z = both (leZ low z) (leZ z high)
 
 abbrev pub is : ℤ → ℤ → Bool
 is a z = between a a z
 
--- S, C, U or R
+-- W2: S, C, U or R
 abbrev pub isSecurity : ℤ → Bool
 isSecurity z = either (is (pos 83) z) (either (is (pos 67) z) (either (is (pos 85) z) (is (pos 82) z)))
 
--- metres, or -1 for not available
+-- W2: metres, or -1 for not available
 abbrev pub isAccuracy : ℤ → Bool
 isAccuracy z = between (negℤ (pos 1)) (pos 9999) z
 
@@ -54,7 +55,7 @@ numberTests zs =
 abbrev pub badNumber : List ℤ → ℕ
 badNumber zs = firstFailed 1 (numberTests zs)
 
--- a number that is not below 0; any other counts as 0
+-- W2: an item that counts, a datum, and an accuracy; what is below 0 counts as 0, and is an accuracy that is not available
 abbrev pub counted : ℤ → ℕ
 counted (pos n) = n
 counted (negsuc n) = 0
@@ -85,7 +86,7 @@ descriptionOf zs = record {
   partial = counted (item zs 12);
 }
 
--- and the other way
+-- W2: and the other way: -1 where an accuracy is not available, 0 for MSL and 1 for E96
 abbrev pub datumNumber : Datum → ℤ
 datumNumber Msl = pos 0
 datumNumber E96 = pos 1

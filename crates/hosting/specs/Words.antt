@@ -16,7 +16,7 @@ heightsIn [] = []
 heightsIn (byte ∷ []) = []
 heightsIn (high ∷ low ∷ bytes) = twosOf (high * 256 + low) ∷ heightsIn bytes
 
--- the other way, for heights of 16 bits: the word of a height, and the bytes of heights; `negsuc n` is -(n + 1)
+-- B2: the other way, for heights of 16 bits: the word of a height, and the bytes of heights; `negsuc n` is -(n + 1)
 abbrev pub twosWord : ℤ → ℕ
 twosWord (pos n) = n
 twosWord (negsuc n) = 0x10000 - (n + 1)
