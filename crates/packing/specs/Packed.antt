@@ -12,7 +12,7 @@ bits (negsuc n) = 65535 - n % 65536
 abbrev pub three : ℕ → ℕ → ℕ → ℕ
 three a b c = a % 65536 * 4294967296 + b % 65536 * 65536 + c % 65536
 
--- a refusal: no number is above 12 and no place takes 56 bits (`places-fit`), so that nothing is cut
+-- a refusal: its number and its place, each in its bits; that none is cut is shown of each call, in `demands`
 abbrev pub refusal : ℕ → ℕ → ℕ
 refusal number place = number % 256 * 72057594037927936 + place % 72057594037927936
 
