@@ -112,7 +112,7 @@ BENCH_OBJECTS = $(BENCH_PARTS:%=target/bench/%.o) $(if $(SECOND_CC),target/bench
 ifeq ($(shell uname -m),x86_64)
 BENCH_ARCHIVE = $(ARCHIVE)
 else
-BENCH_ARCHIVE = target/bench/libdted.a
+BENCH_ARCHIVE = target/native/libdted.a
 endif
 
 bench: target/bench/bench
@@ -130,6 +130,5 @@ target/bench/second.o: bench/plain.c bench/plain.h include/dted.h
 	@mkdir -p $(@D)
 	$(SECOND_CC) $(BENCH_FLAGS) $(foreach call,intake post edit write compiler,-Dplain_$(call)=second_$(call)) -c $< -o $@
 
-target/bench/libdted.a:
-	@mkdir -p $(@D)
-	bench/native $@
+target/native/libdted.a: $(ARCHIVE)
+	tools/native $@

@@ -58,7 +58,7 @@ struct pick {
 
 static struct pick picks[PICKS];
 static size_t length, bytes, columns, posts, column_bytes;
-static uint8_t *cell, *grid, *out, *edited[SETS];
+static uint8_t *cell, *grid, *out, *edited[SETS], *edited_by_gdal;
 static int16_t *rows;
 
 static struct lap laps[LAPS];
@@ -198,6 +198,14 @@ static uint64_t gdal_posts(const struct lap *lap, unsigned round) {
     return good;
 }
 
+static uint64_t gdal_edits(const struct lap *lap, unsigned round) {
+    uint64_t good = 0;
+    (void)lap;
+    for (int i = 0; i < PICKS; i++)
+        good += gdal_edit_post((int)picks[i].column, (int)picks[i].post, (int16_t)(picks[i].height - (int)round));
+    return good;
+}
+
 static uint64_t gdal_whole(const struct lap *lap, unsigned round) {
     (void)lap, (void)round;
     return gdal_write();
@@ -228,7 +236,8 @@ static bool gdal_takes_bad_word(void) {
 
 /* GDAL reads what was written, and refuses a cell with one wrong checksum. */
 static void check_gdal(void) {
-    if (!gdal_start(cell, length, (int)columns, (int)posts, (int)items[DTED_LATITUDE], (int)items[DTED_LONGITUDE]))
+    edited_by_gdal = memcpy(room_for(length), cell, length);
+    if (!gdal_start(cell, edited_by_gdal, length, (int)columns, (int)posts, (int)items[DTED_LATITUDE], (int)items[DTED_LONGITUDE]))
         stop("GDAL does not open the cell");
     rows = (int16_t *)(void *)room_for(bytes);
     if (!gdal_read_all(rows))
@@ -282,6 +291,8 @@ static void plan_all(void) {
         plan("post", "GDAL", PICKS, gdal_posts);
     plan_sets("edit", PICKS, edit, NULL);
     plan("edit", "read-only pass", PICKS, read_columns);
+    if (gdal_version())
+        plan("edit", "GDAL", PICKS, gdal_edits);
     plan_sets("write", 1, whole, NULL);
     plan("write", "read-only pass", 1, read_grid);
     plan("write", "copy", 1, copy_grid);
@@ -320,6 +331,8 @@ static void check_round(void) {
     for (size_t i = 1; i < SET_COUNT; i++)
         if (memcmp(edited[0], edited[i], length) != 0)
             stop("edited cells differ");
+    if (gdal_version() && memcmp(edited[0], edited_by_gdal, length) != 0)
+        stop("GDAL's edited cell differs");
 }
 
 /* The number of laps from this one on that are of one act. */

@@ -5,7 +5,12 @@ use denote.Ref.{now}
 use borrow.Fn.Kinds as K
 use Rattle.answers.specs.Told.{intake, post, position, act}
 use Rattle.answers.specs.declared.Verdict.{Verdict}
+use Rattle.answers.specs.Told as telling
 use Rattle.answers.proofs.Injective.{told-injective}
+use Rattle.answers.proofs.number.Reads as number
+use Rattle.answers.proofs.number.Kinds as number-kinds
+use Rattle.layout.proofs.lay.Reads as lay
+use Rattle.layout.proofs.lay.Kinds as lay-kinds
 use Rattle.headers.proofs.judge.judge.Reads as judge
 use Rattle.headers.proofs.judge.judge.Kinds as judge-kinds
 use Rattle.describing.proofs.describe.describe.Reads as describe
@@ -14,6 +19,10 @@ use Rattle.describing.proofs.items.bad_item.Reads as bad-item
 use Rattle.describing.proofs.items.bad_item.Kinds as bad-item-kinds
 use Rattle.reading.proofs.intake.intake.Reads as taking
 use Rattle.reading.proofs.intake.intake.Kinds as taking-kinds
+use Rattle.reading.proofs.intake.end.Reads as ending
+use Rattle.reading.proofs.intake.end.Kinds as ending-kinds
+use Rattle.reading.proofs.reach.reach.Reads as reaching
+use Rattle.reading.proofs.reach.reach.Kinds as reaching-kinds
 use Rattle.reading.proofs.lookup.look_up.Reads as looking
 use Rattle.reading.proofs.lookup.look_up.Kinds as looking-kinds
 use Rattle.locating.proofs.position.locate.Reads as locating
@@ -29,8 +38,19 @@ use Rattle.writing.proofs.cell.write.Reads as write-cell
 use Rattle.writing.proofs.cell.write.Kinds as write-cell-kinds
 use Rattle.writing.proofs.column.write.Reads as write-column
 use Rattle.writing.proofs.column.write.Kinds as write-column-kinds
+use Rattle.hosting.proofs.cell.write.Reads as write-bytes
+use Rattle.hosting.proofs.cell.write.Kinds as write-bytes-kinds
+use Rattle.hosting.proofs.column.write.Reads as write-column-bytes
+use Rattle.hosting.proofs.column.write.Kinds as write-column-bytes-kinds
 use Rattle.editing.proofs.edit.edit.Reads as editing
 use Rattle.editing.proofs.edit.edit.Kinds as editing-kinds
+
+-- the number and place of a refusal, and the grid of a level and an edge
+pub number-settled : (κs : L.Lfts 0) (a : K.Dens κs number-kinds.ps) (r r' : _) (s s' : _) → number.Post κs a r s → number.Post κs a r' s' → r ≡ r'
+number-settled κs a r r' s s' p q = λ k. record { 0 = telling.numberTold ((p ∙ sym q) k); 1 = telling.placeTold ((p ∙ sym q) k) }
+
+pub lay-settled : (κs : L.Lfts 0) (a : K.Dens κs lay-kinds.ps) (r r' : _) (s s' : _) → lay.Post κs a r s → lay.Post κs a r' s' → r ≡ r'
+lay-settled κs a r r' s s' p q = p ∙ sym q
 
 -- headers, judged and described, and the items of a description
 pub judge-settled : (κs : L.Lfts 1) (a : K.Dens κs judge-kinds.ps) (r r' : _) (s s' : _) → judge.Post κs a r s → judge.Post κs a r' s' → r ≡ r'
@@ -45,6 +65,12 @@ items-settled κs a r r' s s' p q = p ∙ sym q
 -- intake and the lookups: what is told decides the answer
 pub intake-settled : (κs : L.Lfts 1) (a : K.Dens κs taking-kinds.ps) (r r' : _) (s s' : _) → taking.Post κs a r s → taking.Post κs a r' s' → r ≡ r'
 intake-settled κs a r r' s s' p q = told-injective intake r r' (p ∙ sym q)
+
+pub end-settled : (κs : L.Lfts 0) (a : K.Dens κs ending-kinds.ps) (r r' : _) (s s' : _) → ending.Post κs a r s → ending.Post κs a r' s' → r ≡ r'
+end-settled κs a r r' s s' p q = told-injective intake r r' (p ∙ sym q)
+
+pub reach-settled : (κs : L.Lfts 1) (a : K.Dens κs reaching-kinds.ps) (r r' : _) (s s' : _) → reaching.Post κs a r s → reaching.Post κs a r' s' → r ≡ r'
+reach-settled κs a r r' s s' p q = p ∙ sym q
 
 pub post-settled : (κs : L.Lfts 1) (a : K.Dens κs looking-kinds.ps) (r r' : _) (s s' : _) → looking.Post κs a r s → looking.Post κs a r' s' → r ≡ r'
 post-settled κs a r r' s s' p q = told-injective post r r' (p ∙ sym q)
@@ -73,6 +99,14 @@ write-settled κs a r r' s s' p q = (told-injective act r r' (p .0 ∙ sym (q .0
 pub write-column-settled : (κs : L.Lfts 2) (a : K.Dens κs write-column-kinds.ps) (r r' : _) (s s' : _)
     → write-column.Post κs a r s → write-column.Post κs a r' s' → (r ≡ r') × (now (s .0) ≡ now (s' .0))
 write-column-settled κs a r r' s s' p q = (told-injective act r r' (p .0 ∙ sym (q .0)), p .1 ∙ sym (q .1))
+
+pub write-bytes-settled : (κs : L.Lfts 3) (a : K.Dens κs write-bytes-kinds.ps) (r r' : _) (s s' : _)
+    → write-bytes.Post κs a r s → write-bytes.Post κs a r' s' → (r ≡ r') × (now (s .0) ≡ now (s' .0))
+write-bytes-settled κs a r r' s s' p q = (told-injective act r r' (p .0 ∙ sym (q .0)), p .1 ∙ sym (q .1))
+
+pub write-column-bytes-settled : (κs : L.Lfts 2) (a : K.Dens κs write-column-bytes-kinds.ps) (r r' : _) (s s' : _)
+    → write-column-bytes.Post κs a r s → write-column-bytes.Post κs a r' s' → (r ≡ r') × (now (s .0) ≡ now (s' .0))
+write-column-bytes-settled κs a r r' s s' p q = (told-injective act r r' (p .0 ∙ sym (q .0)), p .1 ∙ sym (q .1))
 
 pub edit-settled : (κs : L.Lfts 1) (a : K.Dens κs editing-kinds.ps) (r r' : _) (s s' : _) → editing.Post κs a r s → editing.Post κs a r' s'
     → (r ≡ r') × (now (s .0) ≡ now (s' .0))
