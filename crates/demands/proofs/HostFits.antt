@@ -19,7 +19,8 @@ use Rattle.layout.specs.declared.Laid.{Laid}
 use Rattle.layout.specs.declared.Laid.the-variants.{Out, NoLevel, NoZone}
 use Rattle.layout.proofs.Ranges.{ranged, laid-out}
 use Rattle.describing.specs.Described.{describedBy, described}
-use Rattle.writing.specs.Cell.{factsFor, postsDue}
+use Rattle.describing.specs.Written.{factsFor}
+use Rattle.writing.specs.Cell.{postsDue}
 use Rattle.writing.proofs.GridDue.{due-ranged}
 use Rattle.writing.proofs.Joined.{parts-small}
 use Rattle.hosting.specs.Items.{numberTests, descriptionOf}

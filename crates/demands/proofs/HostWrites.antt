@@ -12,10 +12,11 @@ use Rattle.answers.specs.declared.Outcome.{Outcome}
 use Rattle.answers.specs.declared.Outcome.the-variants.{Done}
 use Rattle.packing.specs.Packed.{packed}
 use Rattle.describing.specs.Described.{described}
+use Rattle.describing.specs.Written.{factsFor}
 use Rattle.describing.specs.declared.Described.{Described}
 use Rattle.reading.specs.Intake.{taken}
 use Rattle.reading.specs.Lookup.{lookedUp}
-use Rattle.writing.specs.Cell.{factsFor, cellOf}
+use Rattle.writing.specs.Cell.{cellOf}
 use Rattle.writing.specs.Given.{outputAfter}
 use Rattle.writing.specs.Grid.{heightAt, saidOf}
 use Rattle.writing.proofs.Restores.{restored-description, restored-accepted, restored-post}

@@ -23,7 +23,8 @@ use Rattle.reading.proofs.lookup.look_up.Kinds as look-up-kinds
 use Rattle.reading.specs.Intake.{taken}
 use Rattle.reading.specs.Lookup.{lookedUp}
 use Rattle.describing.specs.Described.{described}
-use Rattle.writing.specs.Cell.{factsFor, judgedCell, cellOf, cellTold, cellOutput}
+use Rattle.describing.specs.Written.{factsFor}
+use Rattle.writing.specs.Cell.{judgedCell, cellOf, cellTold, cellOutput}
 use Rattle.writing.specs.Given.{outputAfter}
 use Rattle.writing.specs.Grid.{heightAt, saidOf}
 use Rattle.writing.proofs.CellExactly.{Ready, ready}

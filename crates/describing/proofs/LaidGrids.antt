@@ -1,5 +1,5 @@
 -- A description in range has a grid: its level is one, and its near edge lies in a zone.
-use Prim.Native.Nat.{ℕ}
+use Prim.Native.Nat.{ℕ, _<_}
 use mathlib.Core.Path.{_≡_, sym, ap, _∙_}
 use mathlib.Core.Bool.{Bool, true, false, false≢true}
 use Rattle.layout.specs.Grid.{laid}
@@ -25,8 +25,11 @@ module _ (d : Description) (edge : ℕ) (e : edge ≡ edgeOf (d .latitude)) wher
   unfolding dueFor
   grid-due x g l o = rw (← e) (laid-out (d .level) edge g (sym l ∙ o) .1 .1)
 
+  -- level and near edge are ones that there are
+  pub edge-within : inRange d ≡ true → (d .level < 3) × (edge < 90)
+  edge-within r = let i = ranged-items d r in (i .level, rw e (edge-below (d .latitude) (i .latitude)))
+
   pub laid-always : (x y : Laid) → inRange d ≡ true → x ≡ laid (d .level) edge → x ≡ y → isOut y ≡ false → ⊥
   laid-always x y r l o n =
-      let i = ranged-items d r in
-      let out = laid-in (d .level) edge (i .level) (rw e (edge-below (d .latitude) (i .latitude))) in
+      let out = laid-in (d .level) edge (edge-within r .0) (edge-within r .1) in
       false≢true (sym n ∙ ap isOut (sym o ∙ (l ∙ out)))

@@ -17,6 +17,7 @@ use Rattle.describing.specs.declared.Datum.the-variants.{Msl, E96}
 use Rattle.describing.specs.declared.Description.{Description}
 use Rattle.headers.specs.declared.angles.Axis.{Axis}
 use Rattle.headers.specs.declared.Due.{Due}
+use Rattle.headers.specs.declared.Facts.{Facts}
 use Rattle.fields.specs.declared.Angle.{Angle}
 use Rattle.fields.specs.declared.Angle.the-variants as angle
 use Rattle.fields.specs.declared.Whose.{Whose}
@@ -34,6 +35,10 @@ dueFor d = record {
   longitude = d .longitude;
   letter = d .security;
 }
+
+-- what headers written from a description will say
+unfoldable pub factsFor : Description → Facts
+factsFor d = record { grid = dueFor d .grid; latitude = d .latitude; longitude = d .longitude; partial = d .partial }
 
 -- the angle of a field; an eastern edge at 180 is 180 E, a western one 180 W, and 0 is N and E
 abbrev pub axisOf : Angle → Axis

@@ -2,6 +2,7 @@
 use answers::Refusal;
 
 pub mod describe;
+pub mod facts;
 pub mod items;
 mod put;
 pub mod write;

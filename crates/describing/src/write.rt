@@ -15,7 +15,6 @@ use fields::row;
 use headers::angles::near_edge;
 use layout::Grid;
 use layout::HEADER_BYTES;
-use layout::Laid;
 use octets::pastes::fill;
 
 // The date of the product specification.
@@ -70,9 +69,6 @@ pub fn put_headers(out: &mut [u8], d: Description)
     requires { ⌜ (3428 ≤ length (now out)) × (inRange d ≡ true) ⌝ }
     ensures { λ _. ⌜ now (out .exit) ≡ headersFor d ++ drop 3428 (now (out .entry)) ⌝ }
 {
-    match layout::lay(d.level, near_edge(d.latitude)) {
-        Laid::Out(grid) => put_all(&mut out[0..HEADER_BYTES], d, grid),
-        Laid::NoLevel => {}
-        Laid::NoZone => {}
-    }
+    let grid = layout::grid_of(d.level, near_edge(d.latitude));
+    put_all(&mut out[0..HEADER_BYTES], d, grid);
 }

@@ -11,9 +11,8 @@ use Rattle.octets.specs.Choice.{pick, both, either}
 use Rattle.octets.specs.Texts.{ascii, has}
 use Rattle.octets.proofs.DigitLaws.{decimal-below}
 use Rattle.octets.proofs.ChoiceLaws.{both-true, by-test, clash}
-use Rattle.layout.specs.Grid.{gridOf, laid}
-use Rattle.layout.specs.declared.Laid.the-variants.{Out}
-use Rattle.layout.proofs.Ranges.{Ranged, ranged, laid-in}
+use Rattle.layout.specs.Grid.{gridOf}
+use Rattle.layout.proofs.Ranges.{Ranged, ranged}
 use Rattle.headers.specs.Angles.{form, northward, eastward, isAngle, degreesIn, letterIn, isOrigin, angleOf}
 use Rattle.headers.specs.Due.{originAt, levelAt, edgeOf, dueIn}
 use Rattle.headers.specs.Rules.{holds, angleHolds}
@@ -86,15 +85,10 @@ fixed s d kept =
           (both-true (isAngle (form 3 (ascii "0000")) east) (rulesOf eastward east) (kept 1 (omega arith)) .1);
     }
 
--- and so the grid is laid out, and within its ranges
-module _ (s : List ℕ) (h : originAt northward s 12 < 180) where
-  pub grid-laid : laid (levelAt s) (edgeOf (originAt northward s 12)) ≡ Out (dueIn s .grid)
-  unfolding dueIn
-  grid-laid = laid-in (levelAt s) (edgeOf (originAt northward s 12)) (level-below s) (edge-below (originAt northward s 12) h)
-
-  pub grid-ranged : Ranged (dueIn s .grid)
-  unfolding dueIn
-  grid-ranged = ranged (levelAt s) (edgeOf (originAt northward s 12)) (level-below s) (edge-below (originAt northward s 12) h)
+-- and so the grid is within its ranges
+pub grid-ranged : (s : List ℕ) → originAt northward s 12 < 180 → Ranged (dueIn s .grid)
+unfolding dueIn
+grid-ranged s h = ranged (levelAt s) (edgeOf (originAt northward s 12)) (level-below s) (edge-below (originAt northward s 12) h)
 
 -- what is due is then within its ranges
 pub due-within : (s : List ℕ) → Fixed s → (dueIn s .latitude < 180) × ((dueIn s .longitude < 360) × (dueIn s .grid .level < 3))

@@ -24,7 +24,6 @@ use layout::Bytes;
 use layout::Grid;
 use layout::HEADER_BYTES;
 use layout::Interval;
-use layout::Laid;
 use octets::digits::decimal;
 
 // Level and origin stand in the first rows, which nothing is due of.
@@ -79,15 +78,12 @@ fn due_in(s: &[u8]) -> Due
     let latitude = origin(NORTHWARD, &s[12..20]);
     let longitude = origin(EASTWARD, &s[4..12]);
     let letter = s[32];
-    match layout::lay(level_at(s), near_edge(latitude)) {
-        Laid::Out(grid) => Due {
-            grid,
-            latitude,
-            longitude,
-            letter,
-        },
-        Laid::NoLevel => NOTHING,
-        Laid::NoZone => NOTHING,
+    let grid = layout::grid_of(level_at(s), near_edge(latitude));
+    Due {
+        grid,
+        latitude,
+        longitude,
+        letter,
     }
 }
 

@@ -10,10 +10,11 @@ use Rattle.answers.specs.Told.{told, act}
 use Rattle.answers.specs.declared.Outcome.{Outcome}
 use Rattle.layout.specs.Levels.{postsOf}
 use Rattle.describing.specs.Items.{inRange}
+use Rattle.describing.specs.Written.{factsFor}
 use Rattle.describing.specs.declared.Description.{Description}
 use Rattle.columns.specs.Column.{columnOf}
 use Rattle.writing.specs.Given.{outputAfter}
-use Rattle.writing.specs.Cell.{factsFor, postsDue, cellOf, cellTold, cellOutput}
+use Rattle.writing.specs.Cell.{postsDue, cellOf, cellTold, cellOutput}
 use Rattle.writing.specs.Column.{zoneOneColumns, columnTold, columnOutput}
 use Rattle.hosting.specs.Words.{heightsIn, bytesFor}
 use Rattle.hosting.specs.Items.{badNumber, descriptionOf, numbersOf}

@@ -15,10 +15,10 @@ use Rattle.answers.specs.declared.Outcome.the-variants.{Done, Refused}
 use Rattle.layout.specs.declared.Grid.{Grid}
 use Rattle.headers.specs.Judged.{voidsAllowed}
 use Rattle.describing.specs.Items.{inRange}
-use Rattle.describing.specs.Written.{dueFor}
+use Rattle.describing.specs.Written.{dueFor, factsFor}
 use Rattle.describing.specs.declared.Description.{Description}
 use Rattle.describing.proofs.RangedItems.{Lowest, item-exactly}
-use Rattle.writing.specs.Cell.{factsFor, postsDue, judgedCell}
+use Rattle.writing.specs.Cell.{postsDue, judgedCell}
 use Rattle.writing.proofs.CellExactly.{items-fine}
 use Rattle.hosting.specs.Words.{heightsIn}
 use Rattle.hosting.specs.Items.{numberTests, badNumber, descriptionOf}

@@ -10,9 +10,10 @@ use Rattle.answers.specs.declared.Refusal.the-variants.{Item}
 use Rattle.answers.specs.declared.Outcome.{Outcome}
 use Rattle.answers.specs.declared.Outcome.the-variants.{Refused}
 use Rattle.headers.specs.Judged.{voidsAllowed}
+use Rattle.describing.specs.Written.{factsFor}
 use Rattle.describing.specs.declared.Description.{Description}
 use Rattle.writing.specs.Given.{outputAfter}
-use Rattle.writing.specs.Cell.{factsFor, postsDue, cellOf}
+use Rattle.writing.specs.Cell.{postsDue, cellOf}
 use Rattle.hosting.specs.Words.{heightsIn}
 use Rattle.hosting.specs.Items.{badNumber, descriptionOf}
 use Rattle.hosting.specs.Given.{judgedGiven}

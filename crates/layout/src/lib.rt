@@ -1,6 +1,7 @@
 // Levels and latitude zones: what grid of posts a cell has, and how long its columns and the cell are.
 ghost use mathlib.Core.Path.{_≡_};
-ghost use Rattle.layout.specs.Grid.{laid};
+ghost use Prim.Native.Nat.{_<_};
+ghost use Rattle.layout.specs.Grid.{gridOf, laid};
 
 mod levels;
 pub mod zones;
@@ -38,6 +39,31 @@ pub enum Laid {
     NoZone,
 }
 
+// The grid of a level and a near edge that there are.
+pub fn grid_of(level: usize, edge: usize) -> Grid
+    requires { ⌜ (level < 3) × (edge < 90) ⌝ }
+    ensures { λ r. ⌜ r ≡ gridOf level edge ⌝ }
+{
+    let factor = zones::factor(edge);
+    let latitude = levels::latitude_interval(level);
+    let longitude = latitude * factor;
+    let columns = DEGREE / longitude + 1;
+    let posts = DEGREE / latitude + 1;
+    let column = 12 + 2 * posts;
+    let cell = HEADER_BYTES + columns * column;
+    Grid {
+        level,
+        factor,
+        interval: Interval {
+            latitude,
+            longitude,
+        },
+        columns,
+        posts,
+        bytes: Bytes { column, cell },
+    }
+}
+
 // What a level and a near edge make due; any numbers.
 pub fn lay(level: usize, edge: usize) -> Laid
     ensures { λ r. ⌜ r ≡ laid level edge ⌝ }
@@ -48,22 +74,5 @@ pub fn lay(level: usize, edge: usize) -> Laid
     if 90 <= edge {
         return Laid::NoZone;
     }
-    let factor = zones::factor(edge);
-    let latitude = levels::latitude_interval(level);
-    let longitude = latitude * factor;
-    let columns = DEGREE / longitude + 1;
-    let posts = DEGREE / latitude + 1;
-    let column = 12 + 2 * posts;
-    let cell = HEADER_BYTES + columns * column;
-    Laid::Out(Grid {
-        level,
-        factor,
-        interval: Interval {
-            latitude,
-            longitude,
-        },
-        columns,
-        posts,
-        bytes: Bytes { column, cell },
-    })
+    Laid::Out(grid_of(level, edge))
 }

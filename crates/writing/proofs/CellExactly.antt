@@ -13,11 +13,11 @@ use Rattle.answers.specs.declared.Outcome.the-variants.{Done, Refused}
 use Rattle.layout.specs.declared.Grid.{Grid}
 use Rattle.describing.specs.Items.{itemTests, badItem, inRange}
 use Rattle.headers.specs.Judged.{voidsAllowed}
-use Rattle.describing.specs.Written.{dueFor}
+use Rattle.describing.specs.Written.{dueFor, factsFor}
 use Rattle.describing.specs.declared.Description.{Description}
 use Rattle.describing.proofs.RangedItems.{Lowest, item-exactly}
 use Rattle.writing.specs.Given.{judgedPosts}
-use Rattle.writing.specs.Cell.{factsFor, postsDue, judgedCell}
+use Rattle.writing.specs.Cell.{postsDue, judgedCell}
 use Rattle.writing.proofs.GivenExactly.{GivenRow, given-row, row-given, Fine, given-fine}
 
 module _ (d : Description) (zs : List ℤ) (room : ℕ) where

@@ -6,11 +6,10 @@ use Rattle.layout.specs.declared.Grid.{Grid}
 use Rattle.layout.proofs.Ranges.{Ranged, ranged}
 use Rattle.headers.specs.Due.{edgeOf}
 use Rattle.describing.specs.Items.{inRange}
-use Rattle.describing.specs.Written.{dueFor}
+use Rattle.describing.specs.Written.{dueFor, factsFor}
 use Rattle.describing.specs.declared.Description.{Description}
 use Rattle.headers.proofs.NearEdges.{edge-below}
 use Rattle.describing.proofs.RangedItems.{ranged-items}
-use Rattle.writing.specs.Cell.{factsFor}
 
 pub facts-grid : (d : Description) → factsFor d .grid ≡ dueFor d .grid
 unfolding factsFor

@@ -12,6 +12,7 @@ use Rattle.posts.specs.Heights.{wordOf}
 use Rattle.describing.specs.Items.{inRange}
 use Rattle.headers.specs.Judged.{voidsAllowed}
 use Rattle.describing.specs.Described.{described}
+use Rattle.describing.specs.Written.{factsFor}
 use Rattle.describing.specs.declared.Description.{Description}
 use Rattle.describing.specs.declared.Described.the-variants.{As}
 use Rattle.describing.proofs.WrittenGood.{written-described}
@@ -23,7 +24,7 @@ use Rattle.reading.specs.Lookup.{lookedUp}
 use Rattle.reading.proofs.CellExactly.{cell-accepted}
 use Rattle.reading.proofs.LookupLaws.{post-found}
 use Rattle.writing.specs.Grid.{heightsOf, heightAt, saidOf, columnsWritten, postsIn, gridIn}
-use Rattle.writing.specs.Cell.{factsFor, postsDue, cellOf}
+use Rattle.writing.specs.Cell.{postsDue, cellOf}
 use Rattle.writing.proofs.ColumnParts.{length-heights}
 use Rattle.writing.proofs.GivenExactly.{Held}
 use Rattle.writing.proofs.Joined.{part-within, element, join-cut}

@@ -12,7 +12,7 @@ use Rattle.posts.specs.Heights.{heightAllowed}
 use Rattle.describing.specs.Items.{inRange}
 use Rattle.headers.specs.Judged.{factsIn, voidsAllowed, Follows}
 use Rattle.describing.specs.Described.{itemsIn}
-use Rattle.describing.specs.Written.{dueFor, headersFor}
+use Rattle.describing.specs.Written.{dueFor, factsFor, headersFor}
 use Rattle.describing.specs.declared.Description.{Description}
 use Rattle.headers.proofs.Exactly.{good-follows}
 use Rattle.describing.proofs.WrittenGood as describing
@@ -22,7 +22,7 @@ use Rattle.columns.proofs.ColumnBytes.{length-column}
 use Rattle.columns.proofs.WrittenGood as columns
 use Rattle.reading.specs.Cell.{columnAt, Cell}
 use Rattle.writing.specs.Grid.{heightsOf, columnsWritten}
-use Rattle.writing.specs.Cell.{factsFor, postsDue, cellOf}
+use Rattle.writing.specs.Cell.{postsDue, cellOf}
 use Rattle.writing.proofs.ColumnParts.{columns-none, columns-more, length-heights, length-columns}
 use Rattle.writing.proofs.GivenExactly.{Held}
 use Rattle.writing.proofs.GridDue.{due-ranged, columns-bytes}

@@ -12,15 +12,10 @@ use Rattle.answers.specs.declared.Outcome.the-variants.{Refused}
 use Rattle.layout.specs.declared.Grid.{Grid}
 use Rattle.describing.specs.Items.{badItem}
 use Rattle.headers.specs.Judged.{voidsAllowed}
-use Rattle.describing.specs.Written.{dueFor, headersFor}
+use Rattle.describing.specs.Written.{factsFor, headersFor}
 use Rattle.describing.specs.declared.Description.{Description}
-use Rattle.headers.specs.declared.Facts.{Facts}
 use Rattle.writing.specs.Given.{judgedPosts, outputAfter}
 use Rattle.writing.specs.Grid.{afresh}
-
--- what headers written from a description will say
-unfoldable pub factsFor : Description → Facts
-factsFor d = record { grid = dueFor d .grid; latitude = d .latitude; longitude = d .longitude; partial = d .partial }
 
 -- the posts of a grid, all its columns together
 abbrev pub postsDue : Grid → ℕ

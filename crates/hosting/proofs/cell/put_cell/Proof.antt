@@ -1,10 +1,11 @@
 -- `put_cell`: the grid that is laid out is the one due.
 use Rattle.describing.proofs.LaidGrids.{grid-due, laid-always}
+use Rattle.describing.specs.Written.{factsFor}
 use Rattle.hosting.proofs.cell.put_cell.Statement.{statement}
 use Rattle.hosting.proofs.cell.put_cell.Tie as tie
 use Rattle.layout.specs.declared.Grid.{Grid}
 use Rattle.writing.proofs.GridDue.{facts-grid}
-use Rattle.writing.specs.Cell.{factsFor, postsDue}
+use Rattle.writing.specs.Cell.{postsDue}
 use Prim.Native.Nat.{_*_}
 use borrow.Author.Needs.{needs}
 use mathlib.Core.Path.{_≡_, refl, sym, ap, _∙_}

@@ -3,11 +3,12 @@ use Rattle.answers.specs.Told.{told, act}
 use Rattle.answers.specs.declared.Outcome.{Outcome}
 use Rattle.answers.specs.declared.Outcome.the-variants.{Done}
 use Rattle.describing.proofs.LaidGrids.{grid-due, laid-always}
+use Rattle.describing.specs.Written.{factsFor}
 use Rattle.writing.proofs.CellExactly.{Ready, ready}
 use Rattle.writing.proofs.GridDue.{facts-grid}
 use Rattle.writing.proofs.cell.write.Statement.{statement}
 use Rattle.writing.proofs.cell.write.Tie as tie
-use Rattle.writing.specs.Cell.{factsFor, postsDue, judgedCell, cellOf, cellTold, cellOutput}
+use Rattle.writing.specs.Cell.{postsDue, judgedCell, cellOf, cellTold, cellOutput}
 use Rattle.writing.specs.Given.{outputAfter}
 use borrow.Author.Needs.{needs}
 use lib.ListN.{length}
