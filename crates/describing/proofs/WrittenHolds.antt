@@ -20,7 +20,7 @@ use Rattle.layout.specs.declared.Grid.{Grid}
 use Rattle.layout.proofs.Ranges.{Ranged, ranged}
 use Rattle.headers.specs.Angles.{northward, eastward, degreesIn, letterIn, degreesOf, letterOf}
 use Rattle.headers.specs.Due.{edgeOf}
-use Rattle.headers.specs.Rules.{isLetter, textOf, numberOf, isNumber, formOf, mayCarry, angleHolds, isAccuracy, holds}
+use Rattle.headers.specs.Rules.{textOf, numberOf, isNumber, formOf, mayCarry, angleHolds, isAccuracy, isLevel, isSecurity, isEdition, isVertical, holds}
 use Rattle.describing.specs.Items.{inRange}
 use Rattle.describing.specs.Written.{dueFor, axisOf, angleFor, angleText, accuracyFor, accuracyText, datumText, textFor}
 use Rattle.describing.specs.declared.Accuracy.{Accuracy}
@@ -57,20 +57,17 @@ unfolding isAccuracy digitsAt differ
 accuracy-holds (Metres m) = ap (λ (b : Bool). either b (has (digitsOf 4 m) 0 (ascii "NA  "))) (digits-are 4 m)
 accuracy-holds Unknown = refl
 
-datum-holds : (v : Datum) → either (has (datumText v) 0 (ascii "MSL")) (has (datumText v) 0 (ascii "E96")) ≡ true
+datum-holds : (v : Datum) → isVertical (datumText v) ≡ true
 unfolding differ
 datum-holds Msl = refl
 datum-holds E96 = refl
 
 -- the level's text is one of the three
-isLevel : List ℕ → Bool
-isLevel t = either (has t 0 (ascii "0300")) (either (has t 0 (ascii "0030")) (has t 0 (ascii "0010")))
-
 level-test : ℕ → Bool
 level-test l = isLevel (digitsOf 4 (latitudeInterval l))
 
 level-holds : (l : ℕ) → l < 3 → isLevel (digitsOf 4 (latitudeInterval l)) ≡ true
-unfolding level-test isLevel latitudeInterval differ places
+unfolding level-test latitudeInterval differ places
 level-holds l h = passes (level-test l) (below level-test 3 tt l h)
 
 -- angles: of a latitude or a longitude that is in range
@@ -121,7 +118,7 @@ module _ (d : Description) (r : RangedItems d) where
 
   -- the rules that look at what is due
   level-due : holds kind.Level (dueFor d) (textFor kind.Level d) ≡ true
-  unfolding holds textFor isLevel dueFor gridOf
+  unfolding holds textFor dueFor gridOf
   level-due = level-holds (d .level) (r .level)
 
   letter-due : holds kind.Letter (dueFor d) (textFor kind.Letter d) ≡ true
@@ -132,13 +129,13 @@ module _ (d : Description) (r : RangedItems d) where
   unfolding holds textFor dueFor gridOf differ places
   series-due = eq-eqb (0x30 + d .level % 10) (0x30 + d .level) (omega (arith, r .level))
 
-  edition-holds : both (digitsAt (digitsOf 2 (d .edition)) 0 2) (leb 1 (decimalAt (digitsOf 2 (d .edition)) 0 2)) ≡ true
+  edition-holds : isEdition (digitsOf 2 (d .edition)) ≡ true
   edition-holds =
       ap (λ (b : Bool). both b (leb 1 (decimalAt (digitsOf 2 (d .edition)) 0 2))) (digits-are 2 (d .edition))
       ∙ ap (leb 1) (decimal-back 2 (d .edition) (omega (arith, r .edition-high)))
       ∙ le-leb 1 (d .edition) (r .edition-low)
 
-  security-holds : both (isLetter (d .security)) (has (d .security ∷ ascii "  ") 1 (ascii "  ")) ≡ true
+  security-holds : isSecurity (d .security ∷ ascii "  ") ≡ true
   unfolding differ
   security-holds = rw (r .security)
 

@@ -46,7 +46,7 @@ judged s = pick (ltb (length s) headerBytes) (Refused (because.Short (length s))
 
 -- the headers follow every rule
 abbrev pub Follows : List ℕ → Type 0
-Follows s = (headerBytes ≤ length s) × ((i : ℕ) → i < 40 → keeps s (dueIn s) (fieldAt i) ≡ true)
+Follows s = (headerBytes ≤ length s) × ((i : ℕ) → i < length fields → keeps s (dueIn s) (fieldAt i) ≡ true)
 
 -- V1: a cell may hold voids exactly where its headers call it partial
 abbrev pub voidsAllowed : Facts → Bool

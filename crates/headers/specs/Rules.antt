@@ -37,7 +37,7 @@ numberOf number.LongitudeInterval g = g .interval .longitude
 numberOf number.Columns g = g .columns
 numberOf number.Posts g = g .posts
 
--- four digits that write a number
+-- H5, H8, H9, H30 to H33: four digits that write a number
 abbrev pub isNumber : ℕ → List ℕ → Bool
 isNumber n t = both (digitsAt t 0 4) (eqb (decimalAt t 0 4) n)
 
@@ -66,17 +66,37 @@ mayCarry angle.East d degrees letter = isCorner eastward (d .longitude + 1) degr
 unfoldable pub angleHolds : Angle → Due → List ℕ → Bool
 angleHolds a d t = both (isAngle (formOf a) t) (mayCarry a d (degreesIn (formOf a) t) (letterIn (formOf a) t))
 
--- metres in four digits, or "NA" and two blanks
+-- H6, H36 to H39: metres in four digits, or "NA" and two blanks
 unfoldable pub isAccuracy : List ℕ → Bool
 isAccuracy t = either (digitsAt t 0 4) (has t 0 (ascii "NA  "))
 
--- S, C, U or R
+-- H4: the latitude interval of one of the three levels
+abbrev pub isLevel : List ℕ → Bool
+isLevel t = either (has t 0 (ascii "0300")) (either (has t 0 (ascii "0030")) (has t 0 (ascii "0010")))
+
+-- H7: S, C, U or R
 abbrev pub isLetter : ℕ → Bool
 isLetter b = either (eqb b 0x53) (either (eqb b 0x43) (either (eqb b 0x55) (eqb b 0x52)))
 
--- A to Z
+-- H7: such a letter, and two blanks
+abbrev pub isSecurity : List ℕ → Bool
+isSecurity t = both (isLetter (getD t 0 0)) (has t 1 (ascii "  "))
+
+-- H13: "DTED" and the level's digit
+abbrev pub isSeries : ℕ → List ℕ → Bool
+isSeries level t = both (has t 0 (ascii "DTED")) (eqb (getD t 4 0) (0x30 + level))
+
+-- H14: two digits, 01 to 99
+abbrev pub isEdition : List ℕ → Bool
+isEdition t = both (digitsAt t 0 2) (leb 1 (decimalAt t 0 2))
+
+-- H15: A to Z
 abbrev pub isVersion : ℕ → Bool
 isVersion b = both (leb 0x41 b) (leb b 0x5A)
+
+-- H17: one of the two vertical datums
+abbrev pub isVertical : List ℕ → Bool
+isVertical t = either (has t 0 (ascii "MSL")) (has t 0 (ascii "E96"))
 
 -- a field of each kind, given what is due
 unfoldable pub holds : Kind → Due → List ℕ → Bool
@@ -84,13 +104,13 @@ holds (kind.Fixed x) d t = has t 0 (textOf x)
 holds (kind.Due n) d t = isNumber (numberOf n (d .grid)) t
 holds (kind.At a) d t = angleHolds a d t
 holds (kind.Accurate w) d t = isAccuracy t
-holds kind.Level d t = either (has t 0 (ascii "0300")) (either (has t 0 (ascii "0030")) (has t 0 (ascii "0010")))
-holds kind.Security d t = both (isLetter (getD t 0 0)) (has t 1 (ascii "  "))
+holds kind.Level d t = isLevel t
+holds kind.Security d t = isSecurity t
 holds kind.Letter d t = eqb (getD t 0 0) (d .letter)
-holds kind.Series d t = both (has t 0 (ascii "DTED")) (eqb (getD t 4 0) (0x30 + d .grid .level))
-holds kind.Edition d t = both (digitsAt t 0 2) (leb 1 (decimalAt t 0 2))
+holds kind.Series d t = isSeries (d .grid .level) t
+holds kind.Edition d t = isEdition t
 holds kind.Version d t = isVersion (getD t 0 0)
-holds kind.Vertical d t = either (has t 0 (ascii "MSL")) (has t 0 (ascii "E96"))
+holds kind.Vertical d t = isVertical t
 holds kind.Indicator d t = digitsAt t 0 2
 
 -- how many bytes a field of each kind has

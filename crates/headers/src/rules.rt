@@ -1,12 +1,9 @@
 // What each field must hold: one test to a kind of the field table.
 ghost use mathlib.Core.Path.{_≡_};
-ghost use Prim.Native.Nat.{_+_, _<_};
-ghost use lib.Dec.{eqb, leb};
-ghost use lib.ListN.{length, getD};
-ghost use Rattle.octets.specs.Choice.{both, either};
-ghost use Rattle.octets.specs.Digits.{digitsAt, decimalAt};
-ghost use Rattle.octets.specs.Texts.{ascii, has};
-ghost use Rattle.headers.specs.Rules.{textOf, isNumber, isAccuracy, isLetter, holds, widthOf};
+ghost use Prim.Native.Nat.{_<_};
+ghost use lib.ListN.{length};
+ghost use Rattle.octets.specs.Texts.{has};
+ghost use Rattle.headers.specs.Rules.{textOf, isNumber, isAccuracy, isLevel, isSecurity, isSeries, isEdition, isVertical, holds, widthOf};
 use crate::Due;
 use crate::letters::is_letter;
 use crate::letters::is_version;
@@ -56,7 +53,7 @@ fn accuracy_holds(field: &[u8]) -> bool
 // The latitude interval of one of the three levels.
 fn level_holds(field: &[u8]) -> bool
     requires { ⌜ length (now field) ≡ 4 ⌝ }
-    ensures { λ r. ⌜ r ≡ either (has (now (field .entry)) 0 (ascii "0300")) (either (has (now (field .entry)) 0 (ascii "0030")) (has (now (field .entry)) 0 (ascii "0010"))) ⌝ }
+    ensures { λ r. ⌜ r ≡ isLevel (now (field .entry)) ⌝ }
 {
     either(
         stands(field, 0, &crate::texts::LEVEL0),
@@ -69,14 +66,14 @@ fn level_holds(field: &[u8]) -> bool
 
 fn security_holds(field: &[u8]) -> bool
     requires { ⌜ length (now field) ≡ 3 ⌝ }
-    ensures { λ r. ⌜ r ≡ both (isLetter (getD (now (field .entry)) 0 0)) (has (now (field .entry)) 1 (ascii "  ")) ⌝ }
+    ensures { λ r. ⌜ r ≡ isSecurity (now (field .entry)) ⌝ }
 {
     both(is_letter(field[0]), stands(field, 1, &crate::texts::BLANKS))
 }
 
 fn series_holds(level: usize, field: &[u8]) -> bool
     requires { ⌜ (length (now field) ≡ 5) × (level < 3) ⌝ }
-    ensures { λ r. ⌜ r ≡ both (has (now (field .entry)) 0 (ascii "DTED")) (eqb (getD (now (field .entry)) 4 0) (0x30 + level)) ⌝ }
+    ensures { λ r. ⌜ r ≡ isSeries level (now (field .entry)) ⌝ }
 {
     both(
         stands(field, 0, &crate::texts::DTED),
@@ -86,7 +83,7 @@ fn series_holds(level: usize, field: &[u8]) -> bool
 
 fn edition_holds(field: &[u8]) -> bool
     requires { ⌜ length (now field) ≡ 2 ⌝ }
-    ensures { λ r. ⌜ r ≡ both (digitsAt (now (field .entry)) 0 2) (leb 1 (decimalAt (now (field .entry)) 0 2)) ⌝ }
+    ensures { λ r. ⌜ r ≡ isEdition (now (field .entry)) ⌝ }
 {
     both(are_digits(field, 0, 2), 1 <= decimal(field, 0, 2))
 }
@@ -94,7 +91,7 @@ fn edition_holds(field: &[u8]) -> bool
 // One of the two vertical datums.
 fn vertical_holds(field: &[u8]) -> bool
     requires { ⌜ length (now field) ≡ 3 ⌝ }
-    ensures { λ r. ⌜ r ≡ either (has (now (field .entry)) 0 (ascii "MSL")) (has (now (field .entry)) 0 (ascii "E96")) ⌝ }
+    ensures { λ r. ⌜ r ≡ isVertical (now (field .entry)) ⌝ }
 {
     either(
         stands(field, 0, &crate::texts::MSL),
