@@ -1,6 +1,7 @@
 -- The theorems about the library as a whole.
 pub mod Examples
 pub mod WrittenCells
+pub mod EditChain
 pub mod EditedCells
 pub mod PlacesFit
 pub mod HostFits
