@@ -1,15 +1,25 @@
--- An act answers a C host 0 exactly where it was done.
+-- An act answers a C host 0 exactly where it was done, and intake never answers 0.
+use Prim.Native.Nat.{ℕ}
 use native.Mathlib.Omega.{arith}
 use mathlib.Core.Path.{_≡_, refl, sym, ap, _∙_}
 use mathlib.Core.Bool.{Bool, true, false}
+use mathlib.Core.List.{List}
 use lib.Dec.{eqb}
+use contract.Lifetimes as L
+use denote.Ref.{now}
 use borrow.Author.Tests.{eq-eqb, ne-eqb}
-use Rattle.answers.specs.Told.{numbered, told, act}
+use borrow.Fn.Kinds as K
+use Rattle.answers.specs.Told.{Told, numbered, told, act}
 use Rattle.answers.specs.declared.Refusal.{Refusal}
 use Rattle.answers.specs.declared.Refusal.the-variants as because
 use Rattle.answers.specs.declared.Outcome.{Outcome}
 use Rattle.answers.specs.declared.Outcome.the-variants.{Done, Refused}
-use Rattle.packing.specs.Packed.{packed, refusal}
+use Rattle.packing.specs.Packed.{packed}
+use Rattle.reading.specs.Intake.{taken}
+use Rattle.reading.proofs.IntakeExactly.{IntakeRow, bad-headers, cut, column, surplus, fine, row}
+use Rattle.writing.proofs.OwnGrid.{cell-facts}
+use Rattle.dted.proofs.cells.dted_intake.Reads as intake
+use Rattle.dted.proofs.cells.dted_intake.Kinds as intake-kinds
 
 -- no refusal is answered as 0
 never-0 : (r : Refusal) → packed (numbered r) ≡ 0 → ⊥
@@ -41,3 +51,16 @@ pub answer-is : (x : Outcome) (t : Bool) → (x ≡ Done → t ≡ true) × (t �
 answer-is Done t e = eq-eqb (packed (told act Done)) 0 done-0 ∙ sym (e .0 refl)
 answer-is (Refused r) true e = absurd (never-0 r (ap (λ (x : Outcome). packed (told act x)) (e .1 refl) ∙ done-0))
 answer-is (Refused r) false e = ne-eqb (packed (numbered r)) 0 (never-0 r)
+
+-- a refusal's number is above 0, and so are the posts to a column of an accepted cell
+by-row : (s : List ℕ) (t : Told) → IntakeRow s t → packed t ≡ 0 → ⊥
+unfolding packed
+by-row s _ (bad-headers r e) z = never-0 r z
+by-row s _ (cut h k u f short) z = omega arith
+by-row s _ (column h k u f whole r e) z = never-0 r z
+by-row s _ (surplus h f past) z = omega arith
+by-row s _ (fine cell) z = let g = cell-facts s cell .grid in omega (arith, g .posts-low, g .posts-high)
+
+-- so 0 is no answer of intake
+pub intake-never-0 : (κs : L.Lfts 1) (a : K.Dens κs intake-kinds.ps) (r : _) (s : _) → intake.Post κs a r s → r ≡ 0 → ⊥
+intake-never-0 κs a r s kept e = by-row (now (a .0)) (taken (now (a .0))) (row (now (a .0))) (sym kept ∙ e)

@@ -7,7 +7,7 @@ use mathlib.Core.List.{List}
 use lib.Dec.{eqb}
 use lib.ListN.{length}
 use Rattle.octets.proofs.ChoiceLaws.{by-order, by-test}
-use Rattle.answers.specs.Told.{told, intake, refused, more, accepted}
+use Rattle.answers.specs.Told.{told, intake, more}
 use Rattle.answers.specs.declared.Verdict.{Verdict}
 use Rattle.answers.specs.declared.Verdict.the-variants as verdict
 use Rattle.layout.specs.Grid.{laid}
@@ -20,6 +20,7 @@ use Rattle.headers.specs.Judged.{judged, voidsAllowed}
 use Rattle.headers.specs.declared.Facts.{Facts}
 use Rattle.headers.specs.declared.Judged.the-variants as headers
 use Rattle.reading.specs.Intake.{ended}
+use Rattle.reading.proofs.NeverMore.{refused-not-more, accepted-not-more}
 use Rattle.stepping.specs.Steps.{saidOf, saidOfHeaders, saidOfLaid, saidOfColumn, dueAfter, after, Step}
 use Rattle.stepping.specs.declared.steps.Due.{Due}
 use Rattle.stepping.specs.declared.steps.Phase.{Phase}
@@ -49,8 +50,8 @@ ended-not-more : (long : ℕ) (g : Grid) → ended long g ≡ more → ⊥
 unfolding ended
 ended-not-more long g e =
     by-test (eqb long (g .bytes .cell))
-    (λ t. let z : accepted (g .level) (g .columns) (g .posts) ≡ more = rw t at e in let n : _≡_ {A = ℕ} 0 1 = cc in omega arith)
-    (λ t. let z : refused 7 (g .bytes .cell) ≡ more = rw t at e in let n : _≡_ {A = ℕ} 0 1 = cc in omega arith)
+    (λ t. accepted-not-more (g .level) (g .columns) (g .posts) (rw t at e))
+    (λ t. refused-not-more 7 (g .bytes .cell) (rw t at e))
 
 -- "more" is said of a column that is due, and so the next number is small
 below-columns : (g : Grid) (voids : Bool) (k : ℕ) (piece : List ℕ) → saidOfColumn g voids k piece ≡ more → k < g .columns

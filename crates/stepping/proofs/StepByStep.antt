@@ -9,11 +9,10 @@ use lib.Seq.{length-take-le, take-all}
 use borrow.Author.Tests.{le-leb, lt-leb}
 use Rattle.octets.specs.Scan.{scan}
 use Rattle.octets.proofs.ChoiceLaws.{by-order}
-use Rattle.answers.specs.Told.{Told, told, intake, refused, more, numbered, numberTold, placeTold}
+use Rattle.answers.specs.Told.{Told, told, intake, refused, more, numbered}
 use Rattle.answers.specs.declared.Verdict.{Verdict}
 use Rattle.answers.specs.declared.Verdict.the-variants as verdict
-use Rattle.answers.specs.declared.Refusal.{Refusal}
-use Rattle.answers.proofs.Injective.{told-injective, refusal-told}
+use Rattle.answers.proofs.Injective.{told-injective}
 use Rattle.layout.specs.Grid.{laid}
 use Rattle.layout.specs.declared.Grid.{Grid}
 use Rattle.layout.specs.declared.Laid.the-variants.{Out}
@@ -23,11 +22,12 @@ use Rattle.columns.specs.declared.Judged.{Judged}
 use Rattle.columns.specs.declared.Judged.the-variants.{Good, Refused}
 use Rattle.reading.specs.Cell.{startOf, columnAt}
 use Rattle.reading.specs.Intake.{orRest, judgeNext, ended, columnsFrom}
+use Rattle.reading.proofs.NeverMore.{refused-not-more, numbered-not-more}
+use Rattle.reading.proofs.Turns.{next-start}
 use Rattle.stepping.specs.Steps.{saidOf, saidOfColumn, after, Fed, firstPiece, laterPieces}
 use Rattle.stepping.specs.declared.steps.Phase.{Phase}
 use Rattle.stepping.specs.declared.steps.Phase.the-variants.{Columns, Over}
 use Rattle.stepping.proofs.Pieces.{piece-past, piece-short, piece-judged}
-use Rattle.reading.proofs.Turns.{next-start}
 
 -- S5: once over, every later answer is the same
 after-over : (u : Verdict) (piece : List ℕ) → after (Over u) piece u ≡ Over u
@@ -48,12 +48,6 @@ settled verdict.More t phase piece p ps w e n f = absurd (n (sym e))
 settled (verdict.Accepted l c q) t phase piece p ps w e n f =
     ap (told intake) (over-stays (verdict.Accepted l c q) p ps w f) ∙ e
 settled (verdict.Refused r) t phase piece p ps w e n f = ap (told intake) (over-stays (verdict.Refused r) p ps w f) ∙ e
-
-refused-not-more : (n at : ℕ) → refused n at ≡ more → ⊥
-refused-not-more n at e = let z : _≡_ {A = ℕ} 0 1 = cc in omega arith
-
-pub numbered-not-more : (r : Refusal) → numbered r ≡ more → ⊥
-numbered-not-more r e = refused-not-more (numberTold (numbered r)) (placeTold (numbered r)) (sym (refusal-told r) ∙ e)
 
 module _ (s : List ℕ) (g : Grid) (level edge : ℕ) (voids : Bool) (out : laid level edge ≡ Out g) (in-range : Ranged g) where
   abbrev due : ℕ → Phase

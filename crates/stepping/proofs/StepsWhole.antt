@@ -24,10 +24,11 @@ use Rattle.headers.proofs.FirstFour.{good-facts, level-below}
 use Rattle.headers.proofs.NearEdges.{edge-below}
 use Rattle.headers.proofs.SameHeaders.{same-headers}
 use Rattle.reading.specs.Intake.{takenBy, taken}
+use Rattle.reading.proofs.NeverMore.{numbered-not-more}
 use Rattle.stepping.specs.Steps.{saidOfHeaders, dueAfter, after, Fed, firstPiece, laterPieces}
 use Rattle.stepping.specs.declared.steps.Phase.{Phase}
 use Rattle.stepping.specs.declared.steps.Phase.the-variants.{Headers}
-use Rattle.stepping.proofs.StepByStep.{settled, numbered-not-more, columns-fed}
+use Rattle.stepping.proofs.StepByStep.{settled, columns-fed}
 
 -- the first piece of a file is judged as the file is
 first-same : (s : List ℕ) → judged (take 3428 s) ≡ judged s
