@@ -14,9 +14,9 @@ use Rattle.posts.specs.Words.{postOf}
 use Rattle.posts.specs.Heights.{formOf, wordOf}
 use Rattle.posts.proofs.RoundTrip.{word-back}
 use Rattle.columns.specs.Column.{preamble, wordsOf, sealed, columnOf, wordAt, sumAt, wordIn, heightsFrom, GoodColumn}
-use Rattle.columns.proofs.WrittenColumn.{length-preamble}
+use Rattle.columns.proofs.WrittenColumn.{length-preamble, length-body}
 use Rattle.columns.proofs.PostsRead.{length-heights}
-use Rattle.columns.proofs.ColumnBytes.{length-body, length-column}
+use Rattle.columns.proofs.ColumnBytes.{length-column}
 
 module _ (s : List ℕ) (k posts : ℕ) (voids : Bool) (bytes : (i : ℕ) → getD s i 0 < 256) (good : GoodColumn s k posts voids) where
   -- the preamble's four parts stand at the front

@@ -12,7 +12,7 @@ use Rattle.octets.proofs.NumberLaws.{length-bytes}
 use Rattle.octets.proofs.FrontLaws.{byte-below, bytes-join}
 use Rattle.posts.specs.Heights.{wordOf}
 use Rattle.columns.specs.Column.{preamble, wordsOf, sealed, columnOf}
-use Rattle.columns.proofs.WrittenColumn.{length-words, length-preamble}
+use Rattle.columns.proofs.WrittenColumn.{length-body}
 
 preamble-bytes : (k i : ℕ) → getD (preamble k) i 0 < 256
 unfolding preamble
@@ -33,9 +33,6 @@ words-bytes (z ∷ zs) i = bytes-join (bytesOf 2 (wordOf z)) (wordsOf zs) (byte-
 
 module _ (k : ℕ) (zs : List ℤ) where
   -- the bytes before the checksum
-  pub length-body : length (preamble k ++ wordsOf zs) ≡ 8 + 2 * length zs
-  length-body = length-append (preamble k) (wordsOf zs) ∙ omega (arith, length-preamble k, length-words zs)
-
   pub body-bytes : (i : ℕ) → getD (preamble k ++ wordsOf zs) i 0 < 256
   body-bytes = bytes-join (preamble k) (wordsOf zs) (preamble-bytes k) (words-bytes zs)
 
@@ -44,7 +41,7 @@ module _ (k : ℕ) (zs : List ℤ) where
   unfolding columnOf sealed
   length-column =
       length-append (preamble k ++ wordsOf zs) (bytesOf 4 (sumOf (preamble k ++ wordsOf zs)))
-      ∙ omega (arith, length-body, length-bytes 4 (sumOf (preamble k ++ wordsOf zs)))
+      ∙ omega (arith, length-body k zs, length-bytes 4 (sumOf (preamble k ++ wordsOf zs)))
 
   pub column-bytes : (i : ℕ) → getD (columnOf k zs) i 0 < 256
   unfolding columnOf sealed

@@ -4,35 +4,22 @@ use native.Mathlib.Omega.{arith}
 use mathlib.Core.Path.{_≡_, sym, ap, _∙_}
 use mathlib.Core.Bool.{Bool, true}
 use mathlib.Core.List.{List, _∷_, _++_, append-assoc}
-use lib.Dec.{eqb}
 use lib.IntN.{ℤ, pos}
 use lib.ListN.{length, getD, take, drop, set, length-append, length-set}
-use lib.Seq.{take-at, drop-at, length-take-le, set-split, set-getD, getD-set-same, getD-set-other}
-use borrow.Author.Tests.{eqb-true, eqb-false}
+use lib.Seq.{take-at, length-take-le, set-split, set-getD, getD-set-same, getD-set-other}
 use Rattle.octets.specs.Numbers.{bytesOf}
 use Rattle.octets.specs.Pastes.{pasted}
 use Rattle.octets.specs.Sums.{sumOf}
-use Rattle.octets.proofs.ChoiceLaws.{by-test}
+use Rattle.octets.proofs.ChoiceLaws.{by-equal}
 use Rattle.octets.proofs.NumberLaws.{length-bytes, number-below}
-use Rattle.octets.proofs.PasteLaws.{paste-end}
+use Rattle.octets.proofs.PasteLaws.{paste-end, paste-over}
 use Rattle.posts.specs.Heights.{wordOf, heightAllowed}
 use Rattle.columns.specs.Column.{preamble, wordsOf, sealed, columnOf, wordAt, sumAt, heightsFrom, GoodColumn}
 use Rattle.columns.specs.Stored.{withWord, stored}
 use Rattle.columns.proofs.Afresh.{good-afresh}
-use Rattle.columns.proofs.ColumnBytes.{length-body}
 use Rattle.columns.proofs.PostsRead.{length-heights, heights-allowed}
-use Rattle.columns.proofs.WrittenColumn.{length-words, words-append, length-preamble}
+use Rattle.columns.proofs.WrittenColumn.{length-words, words-append, length-preamble, length-body}
 use Rattle.columns.proofs.WrittenGood.{written-good, heights-back}
-
--- a paste over the middle of three parts
-paste-over : (xs ys zs vs : List ℕ) (i : ℕ) → length xs ≡ i → length vs ≡ length ys → pasted (xs ++ (ys ++ zs)) i vs ≡ xs ++ (vs ++ zs)
-unfolding pasted
-paste-over xs ys zs vs i l m =
-    let n : length (xs ++ ys) ≡ i + length vs = length-append xs ys ∙ omega arith in
-    let d : drop (i + length vs) (xs ++ (ys ++ zs)) ≡ zs =
-    ap (drop (i + length vs)) (sym (append-assoc xs ys zs)) ∙ drop-at (xs ++ ys) zs (i + length vs) n
-    in
-    rw (take-at xs (ys ++ zs) i l, d) (append-assoc xs vs zs)
 
 module _ (k : ℕ) (zs : List ℤ) (p : ℕ) (h : p < length zs) where
   -- what is written before the word of post p, and after it
@@ -84,11 +71,9 @@ held-set : (voids : Bool) (zs : List ℤ) (p : ℕ) (z : ℤ) → heightAllowed 
     → ((i : ℕ) → i < length zs → heightAllowed voids (getD zs i (pos 0)) ≡ true)
     → (i : ℕ) → i < length zs → heightAllowed voids (getD (set zs p z) i (pos 0)) ≡ true
 held-set voids zs p z a held i h =
-    by-test (eqb i p)
-    (λ e.
-    let same = eqb-true i p e in
-    rw (same, getD-set-same zs p z (pos 0) (omega arith)) a)
-    (λ e. rw (getD-set-other zs p i z (pos 0) (eqb-false i p e)) (held i h))
+    by-equal i p
+    (λ same. rw (same, getD-set-same zs p z (pos 0) (omega arith)) a)
+    (λ other. rw (getD-set-other zs p i z (pos 0) other) (held i h))
 
 module _ (s : List ℕ) (k posts : ℕ) (voids : Bool) (bytes : (i : ℕ) → getD s i 0 < 256) (good : GoodColumn s k posts voids)
     (p : ℕ) (h : p < posts) (z : ℤ) where

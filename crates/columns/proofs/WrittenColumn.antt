@@ -60,13 +60,14 @@ preamble-put out k h =
     ∙ ap (λ (m : ℕ). pasted (pasted out 0 c) m (bytesOf 2 0)) (sym lc)
     ∙ paste-paste out 0 c (bytesOf 2 0) (omega (arith, lc))
 
+-- the bytes before the checksum
+pub length-body : (k : ℕ) (zs : List ℤ) → length (preamble k ++ wordsOf zs) ≡ 8 + 2 * length zs
+length-body k zs = length-append (preamble k) (wordsOf zs) ∙ omega (arith, length-preamble k, length-words zs)
+
 -- preamble, words and checksum, put one after the other over bytes of the column's length
 module _ (out : List ℕ) (k : ℕ) (zs : List ℤ) (long : length out ≡ 12 + 2 * length zs) where
   abbrev body : List ℕ
   body = preamble k ++ wordsOf zs
-
-  body-long : length body ≡ 8 + 2 * length zs
-  body-long = length-append (preamble k) (wordsOf zs) ∙ omega (arith, length-preamble k, length-words zs)
 
   body-put : pasted (pasted out 0 (preamble k)) 8 (wordsOf zs) ≡ pasted out 0 body
   body-put =
@@ -75,16 +76,16 @@ module _ (out : List ℕ) (k : ℕ) (zs : List ℤ) (long : length out ≡ 12 + 
 
   -- the bytes that are summed
   summed : take (8 + 2 * length zs) (pasted (pasted out 0 (preamble k)) 8 (wordsOf zs)) ≡ body
-  summed = ap (take (8 + 2 * length zs)) (body-put ∙ paste-front out body) ∙ take-at body _ _ body-long
+  summed = ap (take (8 + 2 * length zs)) (body-put ∙ paste-front out body) ∙ take-at body _ _ (length-body k zs)
 
   pub column-put : (v : ℕ) → v ≡ sumOf (take (8 + 2 * length zs) (pasted (pasted out 0 (preamble k)) 8 (wordsOf zs)))
       → pasted (pasted (pasted out 0 (preamble k)) 8 (wordsOf zs)) (8 + 2 * length zs) (bytesOf 4 v) ≡ columnOf k zs
   unfolding columnOf sealed
   column-put v e =
-      let n : 0 + length body ≡ 8 + 2 * length zs = omega (arith, body-long) in
-      let all : length (body ++ bytesOf 4 v) ≡ length out = length-append body (bytesOf 4 v) ∙ omega (arith, body-long, length-bytes 4 v) in
+      let n : 0 + length body ≡ 8 + 2 * length zs = omega (arith, length-body k zs) in
+      let all : length (body ++ bytesOf 4 v) ≡ length out = length-append body (bytesOf 4 v) ∙ omega (arith, length-body k zs, length-bytes 4 v) in
       ap (λ (l : List ℕ). pasted l (8 + 2 * length zs) (bytesOf 4 v)) body-put
       ∙ ap (λ (m : ℕ). pasted (pasted out 0 body) m (bytesOf 4 v)) (sym n)
-      ∙ paste-paste out 0 body (bytesOf 4 v) (omega (arith, body-long))
+      ∙ paste-paste out 0 body (bytesOf 4 v) (omega (arith, length-body k zs))
       ∙ paste-all out (body ++ bytesOf 4 v) all
       ∙ ap (λ (m : ℕ). body ++ bytesOf 4 m) (e ∙ ap sumOf summed)

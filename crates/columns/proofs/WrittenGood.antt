@@ -16,8 +16,8 @@ use Rattle.posts.specs.Words.{postOf}
 use Rattle.posts.specs.Heights.{formOf, wordOf, heightAllowed}
 use Rattle.posts.proofs.RoundTrip.{word-fits, word-allowed, height-back}
 use Rattle.columns.specs.Column.{preamble, wordsOf, sealed, columnOf, sumAt, wordIn, heightsFrom, GoodColumn}
-use Rattle.columns.proofs.WrittenColumn.{length-preamble}
-use Rattle.columns.proofs.ColumnBytes.{length-body, body-bytes, length-column}
+use Rattle.columns.proofs.WrittenColumn.{length-preamble, length-body}
+use Rattle.columns.proofs.ColumnBytes.{body-bytes, length-column}
 use Rattle.columns.proofs.PostsRead.{length-heights, height-at}
 
 -- the word of height i of those written after a front

@@ -3,15 +3,14 @@ use Prim.Native.Nat.{ℕ, _+_, _*_, _<_, _≤_}
 use native.Mathlib.Omega.{arith}
 use mathlib.Core.Path.{_≡_, sym, ap, _∙_}
 use mathlib.Core.Bool.{true, false}
-use mathlib.Core.List.{List, _++_}
+use mathlib.Core.List.{List}
 use lib.IntN.{ℤ}
 use lib.ListN.{length, getD, take, drop, set, length-set}
-use lib.Seq.{take-all, getD-drop}
+use lib.Seq.{take-all}
 use Rattle.octets.specs.Pastes.{pasted}
-use Rattle.octets.proofs.ChoiceLaws.{by-test, by-order}
-use Rattle.octets.proofs.FrontLaws.{bytes-join}
+use Rattle.octets.proofs.ChoiceLaws.{by-test, by-order, by-equal}
 use Rattle.octets.proofs.PartLaws.{paste-shown, paste-before, paste-behind}
-use Rattle.octets.proofs.PasteLaws.{length-paste}
+use Rattle.octets.proofs.PasteLaws.{length-paste, paste-bytes}
 use Rattle.answers.specs.declared.Refusal.{Refusal}
 use Rattle.answers.specs.declared.Refusal.the-variants.{OffGrid, Height}
 use Rattle.answers.specs.declared.Outcome.the-variants.{Done, Refused}
@@ -38,16 +37,7 @@ use Rattle.writing.proofs.Joined.{join-cut}
 use Rattle.writing.proofs.OwnGrid.{postsAt, posts-none, posts-more, length-grid, own-column, cell-facts}
 use Rattle.editing.specs.Edit.{judgedEdit, storedIn, edited}
 use Rattle.editing.proofs.EditBy.{not-reached, height-refused, height-stored}
-use Rattle.editing.proofs.OnePart.{by-equal, parts-apart, part-set, part-other}
-
--- bytes pasted over bytes are bytes
-paste-bytes : (l : List ℕ) (at : ℕ) (vs : List ℕ) → ((i : ℕ) → getD l i 0 < 256) → ((i : ℕ) → getD vs i 0 < 256)
-    → (i : ℕ) → getD (pasted l at vs) i 0 < 256
-unfolding pasted
-paste-bytes l at vs f g =
-    bytes-join (take at l ++ vs) (drop (at + length vs) l)
-    (bytes-join (take at l) vs (part-bytes l 0 at f) g)
-    (λ i. rw (getD-drop (at + length vs) l i 0) (f (at + length vs + i)))
+use Rattle.editing.proofs.OnePart.{parts-apart, part-set, part-other}
 
 -- a post of the grid is reached
 post-reached : (s : List ℕ) → Cell s → (c p : ℕ) → c < factsIn s .grid .columns → p < factsIn s .grid .posts

@@ -3,16 +3,10 @@ use Prim.Native.Nat.{ℕ, _+_, _*_, _-_, _<_, _≤_}
 use native.Mathlib.Omega.{arith}
 use mathlib.Core.Path.{_≡_, sym, ap, _∙_}
 use mathlib.Core.List.{List}
-use lib.Dec.{eqb}
 use lib.ListN.{take, drop, set}
 use lib.Seq.{take-set-le, take-set-lt, drop-set-lt, drop-set-add}
-use borrow.Author.Tests.{eqb-true, eqb-false}
-use Rattle.octets.proofs.ChoiceLaws.{by-test, by-order}
+use Rattle.octets.proofs.ChoiceLaws.{by-order, by-equal}
 use Rattle.writing.proofs.Joined.{part-within}
-
--- by cases on whether two numbers are equal
-pub by-equal : {C : Type 0} (a b : ℕ) → (a ≡ b → C) → ((a ≡ b → ⊥) → C) → C
-by-equal a b f g = by-test (eqb a b) (λ e. f (eqb-true a b e)) (λ e. g (eqb-false a b e))
 
 -- two parts of one width do not meet
 pub parts-apart : {C : Type 0} (a b width : ℕ) → (a ≡ b → ⊥) → (a * width + width ≤ b * width → C) → (b * width + width ≤ a * width → C) → C

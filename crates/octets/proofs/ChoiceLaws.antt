@@ -4,6 +4,8 @@ use native.Mathlib.Nat.{lt-of-not-le}
 use native.Mathlib.Decide.{decLe}
 use mathlib.Core.Path.{_≡_, refl, sym, _∙_}
 use mathlib.Core.Bool.{Bool, true, false, false≢true}
+use lib.Dec.{eqb}
+use borrow.Author.Tests.{eqb-true, eqb-false}
 use Rattle.octets.specs.Choice.{both}
 
 pub both-true : (a b : Bool) → both a b ≡ true → (a ≡ true) × (b ≡ true)
@@ -21,3 +23,7 @@ clash t f = absurd (false≢true (sym f ∙ t))
 -- by cases on an order
 pub by-order : {C : Type 0} (a b : ℕ) → (a ≤ b → C) → (b < a → C) → C
 by-order a b f g = elim (decLe a b) [ yes h ↦ f h | no h ↦ g (lt-of-not-le h) ]
+
+-- by cases on whether two numbers are equal
+pub by-equal : {C : Type 0} (a b : ℕ) → (a ≡ b → C) → ((a ≡ b → ⊥) → C) → C
+by-equal a b f g = by-test (eqb a b) (λ e. f (eqb-true a b e)) (λ e. g (eqb-false a b e))

@@ -1,13 +1,16 @@
--- Laws of pastes: lengths, one paste after another, single stores, and parts that were lent and came back.
+-- Laws of pastes: lengths, one paste after another, single stores, parts that were lent and came back, and that bytes stay bytes.
 use Prim.Native.Nat.{ℕ, zero, suc, _+_, _-_, _<_, _≤_}
 use native.Mathlib.Numerals.{add-one}
 use native.Mathlib.Omega.{arith}
 use mathlib.Core.Path.{_≡_, refl, sym, ap, _∙_}
 use mathlib.Core.List.{List, [], _∷_, _++_, append-nil, append-assoc}
-use lib.ListN.{length, take, drop, getD, set, length-append, length-drop, replicate, length-replicate, take-append-drop, drop-of-length-le}
-use lib.Seq.{sets, sets-eq, take-at, drop-at, set-split, take-set-le, take-suc, drop-append-add, drop-drop, length-take-le}
+use lib.Dec.{lit<}
+use lib.ListN.{length, take, drop, getD, set, length-append, length-take, length-drop, replicate, length-replicate, take-append-drop, drop-of-length-le, List·getD-eq-default}
+use lib.Seq.{sets, sets-eq, take-at, drop-at, set-split, take-set-le, take-suc, drop-append-add, drop-drop, length-take-le, getD-take, getD-drop}
 use borrow.Rule.Slice.PartMut.{putMid}
 use Rattle.octets.specs.Pastes.{pasted}
+use Rattle.octets.proofs.ChoiceLaws.{by-order}
+use Rattle.octets.proofs.FrontLaws.{bytes-join}
 
 module _ {A : Type 0} (l : List A) (i : ℕ) where
   pub paste-none : pasted l i [] ≡ l
@@ -48,6 +51,17 @@ paste-front l vs = let e : 0 + length vs ≡ length vs = omega arith in rw e
 pub paste-end : {A : Type 0} (l : List A) (i : ℕ) (vs : List A) → i + length vs ≡ length l → pasted l i vs ≡ take i l ++ vs
 unfolding pasted
 paste-end l i vs h = rw (drop-of-length-le l {i = i + length vs} (omega arith), append-nil)
+
+-- a paste over the middle of three parts
+pub paste-over : {A : Type 0} (xs ys zs vs : List A) (i : ℕ) → length xs ≡ i → length vs ≡ length ys
+    → pasted (xs ++ (ys ++ zs)) i vs ≡ xs ++ (vs ++ zs)
+unfolding pasted
+paste-over xs ys zs vs i l m =
+    let n : length (xs ++ ys) ≡ i + length vs = length-append xs ys ∙ omega arith in
+    let d : drop (i + length vs) (xs ++ (ys ++ zs)) ≡ zs =
+    ap (drop (i + length vs)) (sym (append-assoc xs ys zs)) ∙ drop-at (xs ++ ys) zs (i + length vs) n
+    in
+    rw (take-at xs (ys ++ zs) i l, d) (append-assoc xs vs zs)
 
 -- one element stored straight after a paste
 pub paste-snoc : {A : Type 0} (l : List A) (i n : ℕ) (vs : List A) (v : A) → length vs ≡ n → i + n < length l
@@ -104,3 +118,18 @@ fill-more l at i v k =
 -- a paste over the whole
 pub paste-all : {A : Type 0} (l vs : List A) → length vs ≡ length l → pasted l 0 vs ≡ vs
 paste-all l vs h = paste-front l vs ∙ rw (drop-of-length-le l {i = length vs} (omega arith), append-nil)
+
+-- bytes pasted over bytes are bytes
+pub paste-bytes : (l : List ℕ) (at : ℕ) (vs : List ℕ) → ((i : ℕ) → getD l i 0 < 256) → ((i : ℕ) → getD vs i 0 < 256)
+    → (i : ℕ) → getD (pasted l at vs) i 0 < 256
+unfolding pasted
+paste-bytes l at vs f g = bytes-join (take at l ++ vs) (drop (at + length vs) l) (bytes-join (take at l) vs front g) behind
+  where
+    front : (i : ℕ) → getD (take at l) i 0 < 256
+    front i =
+        by-order at i
+        (λ h. rw (List·getD-eq-default (take at l) 0 {n = i} (omega (arith, length-take at l))) (lit< tt))
+        (λ h. rw (getD-take at l i 0 h) (f i))
+
+    behind : (i : ℕ) → getD (drop (at + length vs) l) i 0 < 256
+    behind i = rw (getD-drop (at + length vs) l i 0) (f (at + length vs + i))

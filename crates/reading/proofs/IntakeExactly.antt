@@ -4,11 +4,10 @@ use native.Mathlib.Omega.{arith}
 use mathlib.Core.Path.{_≡_, refl, sym, ap, subst, _∙_}
 use mathlib.Core.Bool.{Bool}
 use mathlib.Core.List.{List}
-use lib.Dec.{eqb}
 use lib.ListN.{length, drop, length-drop}
 use lib.Seq.{length-take-le}
-use borrow.Author.Tests.{eqb-true, eqb-false, ne-eqb}
-use Rattle.octets.proofs.ChoiceLaws.{by-order, by-test}
+use borrow.Author.Tests.{ne-eqb}
+use Rattle.octets.proofs.ChoiceLaws.{by-order, by-equal}
 use Rattle.answers.specs.Told.{Told, refused, accepted, numbered}
 use Rattle.answers.specs.declared.Refusal.{Refusal}
 use Rattle.layout.specs.declared.Grid.{Grid}
@@ -120,9 +119,9 @@ module _ (s : List ℕ) where
   by-found : Follows s → Found (g .columns) → Some
   by-found h (first t r) = (t, r)
   by-found h (all f) =
-      by-test (eqb (length s) (g .bytes .cell))
-      (λ e. (_, fine (record { headers = h; long = eqb-true (length s) (g .bytes .cell) e; columns = λ k u. f k u .1 })))
-      (λ e. (_, surplus h f (eqb-false (length s) (g .bytes .cell) e)))
+      by-equal (length s) (g .bytes .cell)
+      (λ same. (_, fine (record { headers = h; long = same; columns = λ k u. f k u .1 })))
+      (λ other. (_, surplus h f other))
 
   by-headers : (x : Judged) → judged s ≡ x → Some
   by-headers (headers.Refused r) e = (numbered r, bad-headers r e)

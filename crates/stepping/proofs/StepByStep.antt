@@ -27,19 +27,15 @@ use Rattle.reading.proofs.Turns.{next-start}
 use Rattle.stepping.specs.Steps.{saidOf, saidOfColumn, after, Fed, firstPiece, laterPieces}
 use Rattle.stepping.specs.declared.steps.Phase.{Phase}
 use Rattle.stepping.specs.declared.steps.Phase.the-variants.{Columns, Over}
+use Rattle.stepping.proofs.Kept.{over-kept}
 use Rattle.stepping.proofs.Pieces.{piece-past, piece-short, piece-judged}
 
 -- S5: once over, every later answer is the same
-after-over : (u : Verdict) (piece : List ℕ) → after (Over u) piece u ≡ Over u
-after-over verdict.More piece = refl
-after-over (verdict.Accepted l c p) piece = refl
-after-over (verdict.Refused r) piece = refl
-
 pub over-stays : (u : Verdict) (piece : List ℕ) (pieces : List (List ℕ)) (w : Verdict) → Fed (Over u) piece pieces w → w ≡ u
 over-stays u piece [] w e = told-injective intake w u e
 over-stays u piece (p ∷ ps) w f =
     let same = told-injective intake (f .0) u (f .1 .0) in
-    over-stays u p ps w (subst (λ (phase : Phase). Fed phase p ps w) (ap (after (Over u) piece) same ∙ after-over u piece) (f .1 .1))
+    over-stays u p ps w (subst (λ (phase : Phase). Fed phase p ps w) (ap (after (Over u) piece) same ∙ over-kept u piece) (f .1 .1))
 
 -- an answer other than "more" is the last
 pub settled : (v : Verdict) (t : Told) (phase : Phase) (piece p : List ℕ) (ps : List (List ℕ)) (w : Verdict)
