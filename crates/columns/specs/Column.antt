@@ -1,11 +1,10 @@
 -- The bytes of a column, for any number of posts (rules C1 to C4).
-use Prim.Native.Nat.{ℕ, zero, suc, _+_, _*_}
+use Prim.Native.Nat.{ℕ, zero, suc, _+_, _*_, _<_}
 use mathlib.Core.Path.{_≡_}
 use mathlib.Core.Bool.{Bool, true}
 use mathlib.Core.List.{List, [], _∷_, _++_}
 use lib.IntN.{ℤ}
 use lib.ListN.{length, getD, take}
-use Prim.Native.Nat.{_<_}
 use Rattle.octets.specs.Numbers.{numberAt, bytesOf}
 use Rattle.octets.specs.Sums.{sumOf}
 use Rattle.posts.specs.Words.{wordAllowed, postOf}

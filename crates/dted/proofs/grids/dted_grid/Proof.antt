@@ -1,11 +1,10 @@
 -- `dted_grid`: by what was laid out.
 use Rattle.packing.specs.Packed.{packed}
-use mathlib.Core.Path.{sym, ap, _∙_}
+use mathlib.Core.Path.{_≡_, sym, ap, _∙_}
 use mir.Facts.{toZ-ofZ}
 use Rattle.dted.specs.Grid.{saidOfLaid, gridTold}
 use Rattle.layout.specs.Grid.{laid}
 use Rattle.layout.specs.declared.Laid.{Laid}
-use mathlib.Core.Path.{_≡_}
 use borrow.Author.Needs.{needs}
 use Rattle.dted.proofs.grids.dted_grid.Statement.{statement}
 use Rattle.dted.proofs.grids.dted_grid.Tie as tie
