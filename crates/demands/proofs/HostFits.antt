@@ -13,7 +13,7 @@ use Rattle.headers.specs.Judged.{judged, voidsAllowed}
 use Rattle.headers.specs.declared.Judged.{Judged}
 use Rattle.headers.specs.declared.Judged.the-variants as headers
 use Rattle.layout.specs.Levels.{postsOf, columnBytes}
-use Rattle.layout.specs.Grid.{gridOf, laid}
+use Rattle.layout.specs.Grid.{laid}
 use Rattle.layout.specs.Zones.{nearEdge}
 use Rattle.layout.specs.declared.Laid.{Laid}
 use Rattle.layout.specs.declared.Laid.the-variants.{Out, NoLevel, NoZone}
@@ -23,16 +23,17 @@ use Rattle.describing.specs.Written.{factsFor}
 use Rattle.writing.specs.Cell.{postsDue}
 use Rattle.writing.proofs.GridDue.{due-ranged}
 use Rattle.writing.proofs.Joined.{parts-small}
+use Rattle.writing.proofs.ItemExactly.{item, then-rest}
 use Rattle.hosting.specs.Items.{numberTests, descriptionOf}
 use Rattle.hosting.specs.Cell.{judgedBytes, bytesTold}
-use Rattle.hosting.specs.Column.{judgedColumnBytes, columnBytesTold}
+use Rattle.hosting.specs.Column.{columnBytesTold}
 use Rattle.hosting.proofs.GivenBytes.{BytesRow, differ, as-heights}
 use Rattle.hosting.proofs.BytesExactly as cell
 use Rattle.hosting.proofs.ColumnBytesExactly as column
 use Rattle.hosting.proofs.ItemNumbers.{number-exactly, in-range}
 use Rattle.dted.specs.Grid.{saidOfLaid, gridTold}
 use Rattle.dted.specs.Description.{saidOfDescribed}
-use Rattle.demands.proofs.PlacesFit.{Fits, most, headers-fit, given-fits}
+use Rattle.demands.proofs.PlacesFit.{Fits, most, headers-fit, given-fits, number-fits}
 
 -- a test that fails is one of the list
 failed-below : (ts : List Bool) (n : ℕ) → getD ts n true ≡ false → n < length ts
@@ -47,8 +48,8 @@ bytes-by posts bytes voids given room hp hb x (as-heights _ e r) = given-fits po
 
 cell-by : (items : List ℤ) (grid : List ℕ) (room : ℕ) (x : Outcome) → cell.CellRow items grid room x → Fits (told act x)
 unfolding numberTests
-cell-by items grid room _ (cell.item n low e) = (lit< tt, omega (arith, failed-below (numberTests items) n (low .0)))
-cell-by items grid room x (cell.then-given _ e r) =
+cell-by items grid room _ (item n low) = (lit< tt, omega (arith, failed-below (numberTests items) n (low .0)))
+cell-by items grid room x (then-rest _ e r) =
     let d = descriptionOf items in
     let g = due-ranged d (in-range items (number-exactly items .0 .1 e)) (factsFor d .grid) refl in
     let posts = parts-small (factsFor d .grid .columns) (factsFor d .grid .posts) (g .columns-high) (omega (arith, g .posts-high)) in
@@ -59,19 +60,11 @@ pub write-fits : (items : List ℤ) (grid out : List ℕ) → Fits (bytesTold it
 unfolding bytesTold
 write-fits items grid out = cell-by items grid (length out) (judgedBytes items grid (length out)) (cell.row items grid (length out))
 
-column-by : (level number : ℕ) (posts : List ℕ) (room : ℕ) (x : Outcome) → column.ColumnRow level number posts room x → Fits (told act x)
-unfolding gridOf
-column-by level number posts room _ (column.level-past h) = (lit< tt, lit< tt)
-column-by level number posts room _ (column.number-past h u) = (lit< tt, lit< tt)
-column-by level number posts room x (column.then-given _ h u r) =
-    let g = ranged level 0 h (lit< tt) in
-    bytes-by (postsOf level) (columnBytes (postsOf level)) true posts room (omega (arith, g .posts-high)) (omega (arith, g .posts-high)) x r
-
 -- the column writer
 pub write-column-fits : (level number : ℕ) (posts out : List ℕ) → Fits (columnBytesTold level number posts out)
 unfolding columnBytesTold
 write-column-fits level number posts out =
-    column-by level number posts (length out) (judgedColumnBytes level number posts (length out)) (column.row level number posts (length out))
+    number-fits level number _ (bytes-by (postsOf level) (columnBytes (postsOf level)) true posts (length out)) _ (column.row level number posts (length out))
 
 -- the grid
 grid-by : (level edge : ℕ) (x : Laid) → laid level edge ≡ x → Fits (saidOfLaid x)

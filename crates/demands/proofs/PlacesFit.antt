@@ -44,6 +44,7 @@ use Rattle.locating.proofs.PositionExactly as position
 use Rattle.writing.specs.Column.{columnTold}
 use Rattle.writing.proofs.Joined.{part-within}
 use Rattle.writing.proofs.GivenExactly.{GivenRow, differs, not-held, no-room, fine}
+use Rattle.writing.proofs.NumberExactly.{NumberRow, level-past, number-past, then-rest}
 use Rattle.writing.proofs.ColumnExactly as column
 use Rattle.editing.specs.Edit.{judgedEdit, editTold}
 use Rattle.editing.proofs.EditExactly as editing
@@ -215,14 +216,18 @@ given-fits posts bytes voids zs room hp hb _ (not-held l n h bad f) = (lit< tt, 
 given-fits posts bytes voids zs room hp hb _ (no-room l f h) = (lit< tt, omega arith)
 given-fits posts bytes voids zs room hp hb _ (fine l f h) = tt
 
-column-by : (level number : ℕ) (zs : List ℤ) (room : ℕ) (x : Outcome) → column.ColumnRow level number zs room x → Fits (told act x)
+-- of a column, where what is judged after its number fits
+pub number-fits : (level number : ℕ) (Rest : Outcome → Type 0)
+    → (postsOf level ≤ most → columnBytes (postsOf level) ≤ most → (x : Outcome) → Rest x → Fits (told act x))
+    → (x : Outcome) → NumberRow level number Rest x → Fits (told act x)
 unfolding gridOf
-column-by level number zs room _ (column.level-past h) = (lit< tt, lit< tt)
-column-by level number zs room _ (column.number-past h u) = (lit< tt, lit< tt)
-column-by level number zs room x (column.then-given _ h u r) =
+number-fits level number Rest f _ (level-past h) = (lit< tt, lit< tt)
+number-fits level number Rest f _ (number-past h u) = (lit< tt, lit< tt)
+number-fits level number Rest f x (then-rest _ h u r) =
     let g = ranged level 0 h (lit< tt) in
-    given-fits (postsOf level) (columnBytes (postsOf level)) true zs room (omega (arith, g .posts-high)) (omega (arith, g .posts-high)) x r
+    f (omega (arith, g .posts-high)) (omega (arith, g .posts-high)) x r
 
 pub write-column-fits : (level number : ℕ) (zs : List ℤ) (out : List ℕ) → Fits (columnTold level number zs out)
 unfolding columnTold
-write-column-fits level number zs out = column-by level number zs (length out) _ (column.row level number zs (length out))
+write-column-fits level number zs out =
+    number-fits level number _ (given-fits (postsOf level) (columnBytes (postsOf level)) true zs (length out)) _ (column.row level number zs (length out))

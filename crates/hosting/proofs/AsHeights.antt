@@ -1,7 +1,7 @@
 -- The writers for a C host promise what the writers over heights promise (rules B1 and B2), so every law of those holds of these.
-use Prim.Native.Nat.{ℕ, _*_, _<_}
+use Prim.Native.Nat.{ℕ, _*_}
 use native.Mathlib.Omega.{arith}
-use mathlib.Core.Path.{_≡_, ap, _∙_}
+use mathlib.Core.Path.{_≡_, ap}
 use mathlib.Core.Bool.{true}
 use mathlib.Core.List.{List}
 use lib.IntN.{ℤ}
@@ -15,7 +15,7 @@ use Rattle.describing.specs.declared.Description.{Description}
 use Rattle.columns.specs.Column.{columnOf}
 use Rattle.writing.specs.Given.{outputAfter}
 use Rattle.writing.specs.Cell.{postsDue, cellOf, cellTold, cellOutput}
-use Rattle.writing.specs.Column.{zoneOneColumns, columnTold, columnOutput}
+use Rattle.writing.specs.Column.{columnTold, columnOutput}
 use Rattle.hosting.specs.Words.{heightsIn, bytesFor}
 use Rattle.hosting.specs.Items.{badNumber, descriptionOf, numbersOf}
 use Rattle.hosting.specs.Cell.{bytesTold, bytesOutput}
@@ -25,7 +25,7 @@ use Rattle.hosting.proofs.ItemNumbers.{numbers-back, numbers-ranged}
 use Rattle.hosting.proofs.BytesExactly as cell
 use Rattle.hosting.proofs.ColumnBytesExactly as column
 
--- items in range, and bytes of the length due
+-- items in range, and bytes of the length due; for a column the length is enough
 pub cell-same : (items : List ℤ) (grid out : List ℕ) → badNumber items ≡ 0 → length grid ≡ 2 * postsDue (factsFor (descriptionOf items) .grid)
     → (bytesTold items grid out ≡ cellTold (descriptionOf items) (heightsIn grid) out)
     × (bytesOutput items grid out ≡ cellOutput (descriptionOf items) (heightsIn grid) out)
@@ -34,12 +34,12 @@ cell-same items grid out e h =
     let same = cell.even-agrees items grid (length out) e h in
     (ap (told act) same, ap (λ (x : Outcome). outputAfter x (cellOf (descriptionOf items) (heightsIn grid)) out) same)
 
-pub column-same : (level number : ℕ) (posts out : List ℕ) → level < 3 → number < zoneOneColumns level → length posts ≡ 2 * postsOf level
+pub column-same : (level number : ℕ) (posts out : List ℕ) → length posts ≡ 2 * postsOf level
     → (columnBytesTold level number posts out ≡ columnTold level number (heightsIn posts) out)
     × (columnBytesOutput level number posts out ≡ columnOutput level number (heightsIn posts) out)
 unfolding columnBytesTold columnBytesOutput columnTold columnOutput
-column-same level number posts out h u e =
-    let same = column.even-agrees level number posts (length out) h u e in
+column-same level number posts out e =
+    let same = column.even-agrees level number posts (length out) e in
     (ap (told act) same, ap (λ (x : Outcome). outputAfter x (columnOf number (heightsIn posts)) out) same)
 
 -- so a host can have any description in range written with any heights of 16 bits

@@ -2,14 +2,14 @@
 use Prim.Native.Nat.{ℕ, zero, suc, _+_, _<_, _≤_}
 use native.Mathlib.Omega.{arith}
 use mathlib.Core.Path.{_≡_, refl, sym, ap, _∙_}
-use mathlib.Core.Bool.{Bool, true, false, false≢true}
+use mathlib.Core.Bool.{Bool, true, false≢true}
 use mathlib.Core.List.{List, [], _∷_}
-use lib.Dec.{eqb, leb, ltb}
-use lib.IntN.{ℤ, pos, negsuc, negℤ, _+ℤ_, _-ℤ_}
+use lib.Dec.{leb}
+use lib.IntN.{ℤ, pos, negsuc, _+ℤ_, _-ℤ_}
 use lib.ListN.{length, getD, drop, drop-of-length-le}
 use lib.Seq.{drop-cons}
-use borrow.Author.Tests.{lt-ltb, le-leb, leb-true, eqb-true}
-use Rattle.octets.specs.Choice.{pick, both, either}
+use borrow.Author.Tests.{lt-ltb, le-leb, leb-true}
+use Rattle.octets.specs.Choice.{both}
 use Rattle.octets.specs.Tests.{every}
 use Rattle.octets.proofs.ChoiceLaws.{both-true}
 use Rattle.octets.proofs.TestLaws.{each-true}
@@ -22,9 +22,9 @@ use Rattle.describing.specs.declared.Datum.the-variants.{Msl, E96}
 use Rattle.describing.specs.declared.Description.{Description}
 use Rattle.describing.proofs.RangedItems.{Lowest, first-exactly, ranged-items}
 use Rattle.hosting.specs.Items as items
-use Rattle.hosting.specs.Items.{item, between, is, isSecurity, isAccuracy, numberTests, badNumber, counted, datumFor, descriptionOf, datumNumber, accuracyNumber, numbersOf}
-use Rattle.hosting.proofs.NumberRanges.{ranged, Angled, angled, security-letter, letter-number, difference-back, difference-between}
-use Rattle.hosting.proofs.RangedNumbers.{RangedNumbers, ranged-numbers}
+use Rattle.hosting.specs.Items.{item, between, isAccuracy, numberTests, badNumber, counted, datumFor, descriptionOf, datumNumber, accuracyNumber, numbersOf}
+use Rattle.hosting.proofs.NumberRanges.{ranged, Angled, angled, letters, versions, passes-counted, difference-back, difference-between}
+use Rattle.hosting.proofs.RangedNumbers.{ranged-numbers}
 
 -- W2, N9: 0 exactly where every item is in its range, and else the lowest that is not
 pub number-exactly : (zs : List ℤ)
@@ -55,9 +55,6 @@ counted-high low high z e = let r = ranged low high z e in rw (r .is) (r .at-mos
 angle-below : (side : ℕ) (z : ℤ) → Angled side z → counted (z +ℤ pos side) < side + side
 angle-below side z a = rw (a .up) (omega (arith, a .small))
 
-letter-said : (z : ℤ) → isSecurity z ≡ true → isLetter (counted z) ≡ true
-letter-said z e = let l = security-letter z e in rw (l .is) (l .letter)
-
 accuracy-said : (z : ℤ) → isAccuracy z ≡ true → accuracyRanged (items.accuracyFor z) ≡ true
 accuracy-said (pos n) e = e
 accuracy-said (negsuc n) e = refl
@@ -70,9 +67,9 @@ in-range zs e =
     (lt-ltb (counted (item zs 0)) 3 (omega (arith, counted-high 0 2 (item zs 0) (r .level)))
     and lt-ltb (counted (item zs 1 +ℤ pos 90)) 180 (angle-below 90 (item zs 1) (angled 90 (item zs 1) (omega arith) (r .latitude)))
     and lt-ltb (counted (item zs 2 +ℤ pos 180)) 360 (angle-below 180 (item zs 2) (angled 180 (item zs 2) (omega arith) (r .longitude)))
-    and letter-said (item zs 3) (r .security)
+    and r .security
     and both-hold (le-leb 1 (counted (item zs 4)) (counted-low 1 99 (item zs 4) (r .edition))) (le-leb (counted (item zs 4)) 99 (counted-high 1 99 (item zs 4) (r .edition)))
-    and both-hold (le-leb 0x41 (counted (item zs 5)) (counted-low 65 90 (item zs 5) (r .version))) (le-leb (counted (item zs 5)) 0x5A (counted-high 65 90 (item zs 5) (r .version)))
+    and r .version
     and refl
     and accuracy-said (item zs 7) (r .accuracy7)
     and accuracy-said (item zs 8) (r .accuracy8)
@@ -127,7 +124,7 @@ numbers-ranged d e =
     (zero-to (d .level) 2 (omega (arith, r .level))
     and difference-between 90 (d .latitude) (omega arith) (r .latitude)
     and difference-between 180 (d .longitude) (omega arith) (r .longitude)
-    and letter-number (d .security) (r .security)
+    and r .security
     and both-hold (le-leb 1 (d .edition) (r .edition-low)) (le-leb (d .edition) 99 (r .edition-high))
     and r .version
     and datum-ranged (d .datum)
@@ -157,9 +154,6 @@ counted-back low high z e = let r = ranged low high z e in rw (r .is)
 angle-back : (side : ℕ) (z : ℤ) → Angled side z → pos (counted (z +ℤ pos side)) -ℤ pos side ≡ z
 angle-back side z a = rw (a .up) (a .back)
 
-letter-back : (z : ℤ) → isSecurity z ≡ true → pos (counted z) ≡ z
-letter-back z e = let l = security-letter z e in rw (l .is)
-
 datum-back : (z : ℤ) → between (pos 0) (pos 1) z ≡ true → datumNumber (datumFor z) ≡ z
 datum-back (negsuc n) e = absurd (false≢true e)
 datum-back (pos zero) e = refl
@@ -178,9 +172,9 @@ description-back zs h e =
       counted-back 0 2 (item zs 0) (r .level),
       angle-back 90 (item zs 1) (angled 90 (item zs 1) (omega arith) (r .latitude)),
       angle-back 180 (item zs 2) (angled 180 (item zs 2) (omega arith) (r .longitude)),
-      letter-back (item zs 3) (r .security),
+      passes-counted isLetter letters (item zs 3) (r .security),
       counted-back 1 99 (item zs 4) (r .edition),
-      counted-back 65 90 (item zs 5) (r .version),
+      passes-counted isVersion versions (item zs 5) (r .version),
       datum-back (item zs 6) (r .datum),
       accuracy-back (item zs 7) (r .accuracy7),
       accuracy-back (item zs 8) (r .accuracy8),

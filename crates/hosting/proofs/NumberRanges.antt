@@ -1,20 +1,19 @@
 -- Numbers in a range: what they are, and what the machine makes of them.
 use Prim.Native.Nat.{ℕ, zero, suc, _+_, _*_, _-_, _^_, _<_, _≤_}
 use native.Mathlib.Omega.{arith}
-use mathlib.Core.Path.{_≡_, refl, sym, ap, _∙_}
+use mathlib.Core.Path.{_≡_, refl, ap}
 use mathlib.Core.Bool.{Bool, true, false, false≢true}
-use lib.Dec.{T, eqb, leb, ltb}
+use lib.Dec.{T, leb, ltb}
 use lib.IntN.{ℤ, pos, negsuc, negℤ, natAbs, _+ℤ_, _-ℤ_}
 use lib.Signed.{leZ, nonNeg}
 use mir.Syntax.{Width, w64}
-use mir.Val.{SFits, Fits, bits, toZ, ofZ}
+use mir.Val.{SFits, Fits, bits}
 use mir.Facts.{toZ-ofZ}
-use borrow.Author.Tests.{leb-true, lt-ltb, le-ltb, le-leb, lt-leb, eq-eqb, ne-eqb}
-use Rattle.octets.specs.Choice.{either}
-use Rattle.octets.proofs.ChoiceLaws.{both-true, by-order}
-use Rattle.headers.specs.Rules.{isLetter}
+use borrow.Author.Tests.{leb-true, lt-ltb, le-ltb, le-leb, lt-leb, ne-eqb}
+use Rattle.octets.proofs.ChoiceLaws.{both-true, clash, by-order}
+use Rattle.headers.specs.Rules.{isLetter, isVersion}
 use Rattle.posts.proofs.Signed.{NotBelow}
-use Rattle.hosting.specs.Items.{between, is, isSecurity, isAccuracy, counted}
+use Rattle.hosting.specs.Items.{between, isAccuracy, counted}
 
 -- a number between two that are not below 0
 pub record Ranged (low high : ℕ) (z : ℤ) : Type 0 where
@@ -29,38 +28,40 @@ ranged low high (pos n) e =
     record { size = n; is = refl; at-least = leb-true low n (t .0); at-most = leb-true n high (t .1) }
 ranged low high (negsuc n) e = absurd (false≢true e)
 
--- so it counts from 0, and is a byte where the range is one
+-- so it counts from 0
 pub from-zero : (low high : ℕ) (z : ℤ) → between (pos low) (pos high) z ≡ true → leZ (pos 0) z ≡ true
 from-zero low high z e = let r = ranged low high z e in rw (r .is) (le-leb 0 (r .size) (omega arith))
 
-pub a-byte : (low high : ℕ) (z : ℤ) → high ≤ 255 → between (pos low) (pos high) z ≡ true → between (pos 0) (pos 255) z ≡ true
-a-byte low high z h e =
-    let r = ranged low high z e in
-    rw (r .is, le-leb 0 (r .size) (omega arith)) (le-leb (r .size) 255 (omega (arith, r .at-most)))
+pub byte : (n : ℕ) → n ≤ 255 → between (pos 0) (pos 255) (pos n) ≡ true
+byte n h = rw (le-leb 0 n (omega arith)) (le-leb n 255 h)
 
--- one of the security letters
-pub record Letter (z : ℤ) : Type 0 where
-  pub size : ℕ
-  pub is : z ≡ pos size
-  pub letter : isLetter size ≡ true
-  pub byte : between (pos 0) (pos 255) z ≡ true
+-- a test that only bytes pass, and not 0
+pub record OfBytes (test : ℕ → Bool) : Type 0 where
+  pub nought : test 0 ≡ false
+  pub past : (n : ℕ) → 255 < n → test n ≡ false
 
-this-letter : (n : ℕ) (z : ℤ) → n ≤ 255 → isLetter n ≡ true → is (pos n) z ≡ true → Letter z
-this-letter n z h l e =
-    let r = ranged n n z e in
-    let same : r .size ≡ n = omega (arith, r .at-least, r .at-most) in
-    record { size = n; is = r .is ∙ ap pos same; letter = l; byte = a-byte n n z h e }
+pub letters : OfBytes isLetter
+letters = record {
+  nought = refl;
+  past = λ n h. rw (ne-eqb n 0x53 (λ q. omega arith), ne-eqb n 0x43 (λ q. omega arith), ne-eqb n 0x55 (λ q. omega arith), ne-eqb n 0x52 (λ q. omega arith));
+}
 
-or-else : {C : Type 0} (a b : Bool) → (a ≡ true → C) → (b ≡ true → C) → either a b ≡ true → C
-or-else true b f g e = f refl
-or-else false b f g e = g e
+pub versions : OfBytes isVersion
+versions = record { nought = refl; past = λ n h. rw (le-leb 0x41 n (omega arith), lt-leb n 0x5A (omega arith)) }
 
-pub security-letter : (z : ℤ) → isSecurity z ≡ true → Letter z
-security-letter z e =
-    or-else (is (pos 83) z) (either (is (pos 67) z) (either (is (pos 85) z) (is (pos 82) z))) (this-letter 83 z (omega arith) refl)
-    (or-else (is (pos 67) z) (either (is (pos 85) z) (is (pos 82) z)) (this-letter 67 z (omega arith) refl)
-    (or-else (is (pos 85) z) (is (pos 82) z) (this-letter 85 z (omega arith) refl) (this-letter 82 z (omega arith) refl)))
-    e
+-- a number whose count passes is a byte and is its count
+module _ (test : ℕ → Bool) (law : OfBytes test) where
+  pub passes-byte : (z : ℤ) → test (counted z) ≡ true → between (pos 0) (pos 255) z ≡ true
+  passes-byte (pos n) e = by-order n 255 (byte n) (λ h. clash e (law .past n h))
+  passes-byte (negsuc n) e = clash e (law .nought)
+
+  pub passes-counted : (z : ℤ) → test (counted z) ≡ true → pos (counted z) ≡ z
+  passes-counted (pos n) e = refl
+  passes-counted (negsuc n) e = clash e (law .nought)
+
+  pub no-byte : (z : ℤ) → between (pos 0) (pos 255) z ≡ false → test (counted z) ≡ false
+  no-byte (pos n) e = by-order n 255 (λ h. clash (byte n h) e) (law .past n)
+  no-byte (negsuc n) e = law .nought
 
 pub whole : (z : ℤ) → SFits w64 z → leZ (pos 0) z ≡ true → NotBelow w64 z
 whole (pos n) f e = record { size = n; is = refl; small = f .sfits; back = toZ-ofZ f }
@@ -126,16 +127,3 @@ difference-between (suc s) a h k =
     by-order (suc s) a
     (λ m. rw (le-ltb a (suc s) m) (le-leb (a - suc s) (suc s - 1) (omega arith)))
     (λ m. rw (lt-ltb a (suc s) m, le-leb (suc s - suc a) s (omega arith)))
-
--- this number alone, and so the security letters
-is-equal : (a n : ℕ) → is (pos a) (pos n) ≡ eqb n a
-is-equal a n =
-    by-order a n
-    (λ h.
-    by-order n a
-    (λ k. rw (le-leb a n h, le-leb n a k) (sym (eq-eqb n a (omega arith))))
-    (λ k. rw (le-leb a n h, lt-leb n a k) (sym (ne-eqb n a (λ q. omega arith)))))
-    (λ h. rw (lt-leb a n h) (sym (ne-eqb n a (λ q. omega arith))))
-
-pub letter-number : (n : ℕ) → isLetter n ≡ true → isSecurity (pos n) ≡ true
-letter-number n e = rw (is-equal 83 n, is-equal 67 n, is-equal 85 n, is-equal 82 n) e

@@ -6,16 +6,17 @@ use mathlib.Core.List.{List}
 use lib.IntN.{ℤ, pos, negℤ}
 use lib.ListN.{getD}
 use Rattle.octets.proofs.TestLaws.{each-true}
+use Rattle.headers.specs.Rules.{isLetter, isVersion}
 use Rattle.describing.proofs.RangedItems.{first-exactly}
-use Rattle.hosting.specs.Items.{item, between, isSecurity, isAccuracy, numberTests, badNumber}
+use Rattle.hosting.specs.Items.{item, between, isAccuracy, counted, numberTests, badNumber}
 
 pub record RangedNumbers (zs : List ℤ) : Type 0 where
   pub level : between (pos 0) (pos 2) (item zs 0) ≡ true
   pub latitude : between (negℤ (pos 90)) (pos 89) (item zs 1) ≡ true
   pub longitude : between (negℤ (pos 180)) (pos 179) (item zs 2) ≡ true
-  pub security : isSecurity (item zs 3) ≡ true
+  pub security : isLetter (counted (item zs 3)) ≡ true
   pub edition : between (pos 1) (pos 99) (item zs 4) ≡ true
-  pub version : between (pos 65) (pos 90) (item zs 5) ≡ true
+  pub version : isVersion (counted (item zs 5)) ≡ true
   pub datum : between (pos 0) (pos 1) (item zs 6) ≡ true
   pub accuracy7 : isAccuracy (item zs 7) ≡ true
   pub accuracy8 : isAccuracy (item zs 8) ≡ true

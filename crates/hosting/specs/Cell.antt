@@ -3,17 +3,13 @@ use Prim.Native.Nat.{ℕ}
 use mathlib.Core.List.{List}
 use lib.IntN.{ℤ}
 use lib.ListN.{length}
-use lib.Dec.{eqb}
-use Rattle.octets.specs.Choice.{pick}
 use Rattle.answers.specs.Told.{Told, told, act}
-use Rattle.answers.specs.declared.Refusal.the-variants.{Item}
 use Rattle.answers.specs.declared.Outcome.{Outcome}
-use Rattle.answers.specs.declared.Outcome.the-variants.{Refused}
 use Rattle.headers.specs.Judged.{voidsAllowed}
 use Rattle.describing.specs.Written.{factsFor}
 use Rattle.describing.specs.declared.Description.{Description}
 use Rattle.writing.specs.Given.{outputAfter}
-use Rattle.writing.specs.Cell.{postsDue, cellOf}
+use Rattle.writing.specs.Cell.{postsDue, afterItem, cellOf}
 use Rattle.hosting.specs.Words.{heightsIn}
 use Rattle.hosting.specs.Items.{badNumber, descriptionOf}
 use Rattle.hosting.specs.Given.{judgedGiven}
@@ -24,7 +20,7 @@ judgedUnder d grid room = judgedGiven (postsDue (factsFor d .grid)) (factsFor d 
 
 -- W1: the order of the call, for an output of so many bytes: 9 with the lowest item comes first
 unfoldable pub judgedBytes : List ℤ → List ℕ → ℕ → Outcome
-judgedBytes items grid room = pick (eqb (badNumber items) 0) (judgedUnder (descriptionOf items) grid room) (Refused (Item (badNumber items)))
+judgedBytes items grid room = afterItem (badNumber items) (judgedUnder (descriptionOf items) grid room)
 
 -- W4, N15: what is told of the call, and the output at its end
 unfoldable pub bytesTold : List ℤ → List ℕ → List ℕ → Told

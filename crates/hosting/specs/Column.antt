@@ -3,27 +3,18 @@ use Prim.Native.Nat.{ℕ}
 use mathlib.Core.Bool.{true}
 use mathlib.Core.List.{List}
 use lib.ListN.{length}
-use lib.Dec.{ltb}
-use Rattle.octets.specs.Choice.{pick}
 use Rattle.answers.specs.Told.{Told, told, act}
-use Rattle.answers.specs.declared.Refusal.the-variants.{Item, OffGrid}
 use Rattle.answers.specs.declared.Outcome.{Outcome}
-use Rattle.answers.specs.declared.Outcome.the-variants.{Refused}
 use Rattle.layout.specs.Levels.{postsOf, columnBytes}
 use Rattle.columns.specs.Column.{columnOf}
 use Rattle.writing.specs.Given.{outputAfter}
-use Rattle.writing.specs.Column.{zoneOneColumns}
+use Rattle.writing.specs.Column.{afterNumber}
 use Rattle.hosting.specs.Words.{heightsIn}
 use Rattle.hosting.specs.Given.{judgedGiven}
 
 -- X1: the order of the call, for an output of so many bytes; voids are allowed
 unfoldable pub judgedColumnBytes : ℕ → ℕ → List ℕ → ℕ → Outcome
-judgedColumnBytes level number posts room =
-    pick (ltb level 3)
-    (pick (ltb number (zoneOneColumns level))
-    (judgedGiven (postsOf level) (columnBytes (postsOf level)) true posts room)
-    (Refused OffGrid))
-    (Refused (Item 1))
+judgedColumnBytes level number posts room = afterNumber level number (judgedGiven (postsOf level) (columnBytes (postsOf level)) true posts room)
 
 -- X1, N15: what is told of the call, and the output at its end
 unfoldable pub columnBytesTold : ℕ → ℕ → List ℕ → List ℕ → Told

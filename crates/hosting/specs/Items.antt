@@ -5,7 +5,8 @@ use mathlib.Core.List.{List, [], _∷_}
 use lib.IntN.{ℤ, pos, negsuc, negℤ, _+ℤ_, _-ℤ_}
 use lib.ListN.{getD}
 use lib.Signed.{leZ}
-use Rattle.octets.specs.Choice.{pick, both, either}
+use Rattle.octets.specs.Choice.{pick, both}
+use Rattle.headers.specs.Rules.{isLetter, isVersion}
 use Rattle.describing.specs.Items.{firstFailed}
 use Rattle.describing.specs.declared.Accuracy.{Accuracy}
 use Rattle.describing.specs.declared.Accuracy.the-variants.{Metres, Unknown}
@@ -25,13 +26,14 @@ between low high z = both (leZ low z) (leZ z high)
 abbrev pub is : ℤ → ℤ → Bool
 is a z = between a a z
 
--- W2: S, C, U or R
-abbrev pub isSecurity : ℤ → Bool
-isSecurity z = either (is (pos 83) z) (either (is (pos 67) z) (either (is (pos 85) z) (is (pos 82) z)))
-
 -- W2: metres, or -1 for not available
 abbrev pub isAccuracy : ℤ → Bool
 isAccuracy z = between (negℤ (pos 1)) (pos 9999) z
+
+-- W2: an item that counts; what is below 0 counts as 0, and is no letter
+abbrev pub counted : ℤ → ℕ
+counted (pos n) = n
+counted (negsuc n) = 0
 
 -- W2: the tests of items 1 to 13
 unfoldable pub numberTests : List ℤ → List Bool
@@ -39,9 +41,9 @@ numberTests zs =
     between (pos 0) (pos 2) (item zs 0)
     ∷ between (negℤ (pos 90)) (pos 89) (item zs 1)
     ∷ between (negℤ (pos 180)) (pos 179) (item zs 2)
-    ∷ isSecurity (item zs 3)
+    ∷ isLetter (counted (item zs 3))
     ∷ between (pos 1) (pos 99) (item zs 4)
-    ∷ between (pos 65) (pos 90) (item zs 5)
+    ∷ isVersion (counted (item zs 5))
     ∷ between (pos 0) (pos 1) (item zs 6)
     ∷ isAccuracy (item zs 7)
     ∷ isAccuracy (item zs 8)
@@ -55,11 +57,7 @@ numberTests zs =
 abbrev pub badNumber : List ℤ → ℕ
 badNumber zs = firstFailed 1 (numberTests zs)
 
--- W2: an item that counts, a datum, and an accuracy; what is below 0 counts as 0, and is an accuracy that is not available
-abbrev pub counted : ℤ → ℕ
-counted (pos n) = n
-counted (negsuc n) = 0
-
+-- W2: a datum, and an accuracy; what is below 0 is one that is not available
 abbrev pub datumFor : ℤ → Datum
 datumFor z = pick (is (pos 0) z) Msl E96
 

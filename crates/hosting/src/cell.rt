@@ -20,31 +20,27 @@ use crate::items::description;
 use answers::Outcome;
 use answers::Refusal;
 use describing::Description;
+use describing::facts::facts_for;
 use describing::write::put_headers;
-use headers::angles::near_edge;
+use headers::judge::may_hold_voids;
 use layout::Grid;
 use layout::HEADER_BYTES;
-use layout::Laid;
 
 // Whether the grid may be written under a description into so much room.
 fn judge_under(d: Description, grid: &[u8], room: usize) -> Outcome
     requires { ⌜ inRange d ≡ true ⌝ }
     ensures { λ r. ⌜ r ≡ judgedUnder d (now (grid .entry)) room ⌝ }
 {
-    match layout::lay(d.level, near_edge(d.latitude)) {
-        Laid::Out(laid) => {
-            let bytes = laid.bytes;
-            judge_given(
-                grid,
-                d.partial != 0,
-                laid.columns * laid.posts,
-                bytes.cell,
-                room,
-            )
-        }
-        Laid::NoLevel => Outcome::Refused(Refusal::Item(1)),
-        Laid::NoZone => Outcome::Refused(Refusal::Item(2)),
-    }
+    let facts = facts_for(d);
+    let laid = facts.grid;
+    let bytes = laid.bytes;
+    judge_given(
+        grid,
+        may_hold_voids(facts),
+        laid.columns * laid.posts,
+        bytes.cell,
+        room,
+    )
 }
 
 // Whether the cell may be written into so much room.
@@ -88,7 +84,7 @@ fn put_grid(out: &mut [u8], columns: usize, posts: usize, grid: &[u8])
 }
 
 // The cell at the front of `out`, for the grid that is laid out; every byte past it stays.
-fn put_laid(out: &mut [u8], d: Description, laid: Grid, grid: &[u8])
+fn put_cell(out: &mut [u8], d: Description, laid: Grid, grid: &[u8])
     requires { ⌜ (inRange d ≡ true) × ((laid ≡ factsFor d .grid) × ((length (now grid) ≡ 2 * postsDue laid) × (laid .bytes .cell ≤ length (now out)))) ⌝ }
     ensures { λ _. ⌜ now (out .exit) ≡ outputAfter Done (cellOf d (heightsIn (now (grid .entry)))) (now (out .entry)) ⌝ }
 {
@@ -98,17 +94,6 @@ fn put_laid(out: &mut [u8], d: Description, laid: Grid, grid: &[u8])
     put_grid(&mut out[HEADER_BYTES..end], laid.columns, laid.posts, grid);
 }
 
-fn put_cell(out: &mut [u8], d: Description, grid: &[u8])
-    requires { ⌜ (inRange d ≡ true) × ((length (now grid) ≡ 2 * postsDue (factsFor d .grid)) × (factsFor d .grid .bytes .cell ≤ length (now out))) ⌝ }
-    ensures { λ _. ⌜ now (out .exit) ≡ outputAfter Done (cellOf d (heightsIn (now (grid .entry)))) (now (out .entry)) ⌝ }
-{
-    match layout::lay(d.level, near_edge(d.latitude)) {
-        Laid::Out(laid) => put_laid(out, d, laid, grid),
-        Laid::NoLevel => {}
-        Laid::NoZone => {}
-    }
-}
-
 // The cell of items and a grid of heights, at the front of `out`; any numbers, any bytes.
 pub fn write(out: &mut [u8], items: &[i64; ITEMS], grid: &[u8]) -> Outcome
     ensures { λ r. ⌜ told.told told.act r ≡ bytesTold (now (items .entry)) (now (grid .entry)) (now (out .entry)) ⌝ }
@@ -116,7 +101,9 @@ pub fn write(out: &mut [u8], items: &[i64; ITEMS], grid: &[u8]) -> Outcome
 {
     let judged = judge(items, grid, out.len());
     if let Outcome::Done = judged {
-        put_cell(out, description(items), grid);
+        let d = description(items);
+        let facts = facts_for(d);
+        put_cell(out, d, facts.grid, grid);
     }
     judged
 }

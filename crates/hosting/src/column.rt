@@ -9,23 +9,19 @@ ghost use Rattle.hosting.specs.Column.{judgedColumnBytes, columnBytesTol
 use crate::given::judge_given;
 use crate::given::put_given;
 use answers::Outcome;
-use answers::Refusal;
-use layout::Laid;
+use writing::column::Placed;
+use writing::column::place;
 
 // Whether the column may be written into so much room.
 fn judge(level: usize, number: usize, posts: &[u8], room: usize) -> Outcome
     ensures { λ r. ⌜ r ≡ judgedColumnBytes level number (now (posts .entry)) room ⌝ }
 {
-    match layout::lay(level, 0) {
-        Laid::Out(laid) => {
-            if laid.columns <= number {
-                return Outcome::Refused(Refusal::OffGrid);
-            }
+    match place(level, number) {
+        Placed::On(laid) => {
             let bytes = laid.bytes;
             judge_given(posts, true, laid.posts, bytes.column, room)
         }
-        Laid::NoLevel => Outcome::Refused(Refusal::Item(1)),
-        Laid::NoZone => Outcome::Refused(Refusal::Item(1)),
+        Placed::Refused(refusal) => Outcome::Refused(refusal),
     }
 }
 

@@ -4,14 +4,16 @@ ghost use mathlib.Core.Bool.{true};
 ghost use Prim.Native.Nat.{_+_, _-_, _<_, _≤_};
 ghost use lib.IntN.{pos, negℤ, _+ℤ_};
 ghost use lib.Signed.{leZ};
-ghost use Rattle.hosting.specs.Items.{item, between, isSecurity, isAccuracy, numberTests, badNumber, counted, datumFor, accuracyFor, accuraciesFor, descriptionOf};
+ghost use Rattle.headers.specs.Rules.{isLetter, isVersion};
+ghost use Rattle.hosting.specs.Items.{item, between, isAccuracy, numberTests, badNumber, counted, datumFor, accuracyFor, accuraciesFor, descriptionOf};
 use describing::Accuracies;
 use describing::Accuracy;
 use describing::Datum;
 use describing::Description;
 use describing::items::first_failed;
+use headers::letters::is_letter;
+use headers::letters::is_version;
 use octets::choices::both;
-use octets::choices::either;
 
 pub const ITEMS: usize = 13;
 
@@ -24,14 +26,33 @@ fn lies(items: &[i64; ITEMS], i: usize, low: i64, high: i64) -> bool
     both(low <= z, z <= high)
 }
 
-// Whether it is one of the security letters.
-fn is_security(items: &[i64; ITEMS]) -> bool
-    ensures { λ r. ⌜ r ≡ isSecurity (item (now (items .entry)) 3) ⌝ }
+// An item that is a byte, as a letter is.
+fn letter(items: &[i64; ITEMS], i: usize) -> u8
+    requires { ⌜ (i < 13) × (between (pos 0) (pos 255) (item (now items) i) ≡ true) ⌝ }
+    ensures { λ r. ⌜ r ≡ counted (item (now (items .entry)) i) ⌝ }
 {
-    let s = lies(items, 3, 83, 83);
-    let c = lies(items, 3, 67, 67);
-    let u = lies(items, 3, 85, 85);
-    either(s, either(c, either(u, lies(items, 3, 82, 82))))
+    items[i] as u8
+}
+
+// Whether there is a security letter, and a match version; a number that is no byte is neither.
+fn has_security(items: &[i64; ITEMS]) -> bool
+    ensures { λ r. ⌜ r ≡ isLetter (counted (item (now (items .entry)) 3)) ⌝ }
+{
+    if lies(items, 3, 0, 255) {
+        is_letter(letter(items, 3))
+    } else {
+        false
+    }
+}
+
+fn has_version(items: &[i64; ITEMS]) -> bool
+    ensures { λ r. ⌜ r ≡ isVersion (counted (item (now (items .entry)) 5)) ⌝ }
+{
+    if lies(items, 5, 0, 255) {
+        is_version(letter(items, 5))
+    } else {
+        false
+    }
 }
 
 // Whether each item is in its range, in the items' order.
@@ -42,9 +63,9 @@ fn number_tests(items: &[i64; ITEMS]) -> [bool; ITEMS]
         lies(items, 0, 0, 2),
         lies(items, 1, -90, 89),
         lies(items, 2, -180, 179),
-        is_security(items),
+        has_security(items),
         lies(items, 4, 1, 99),
-        lies(items, 5, 65, 90),
+        has_version(items),
         lies(items, 6, 0, 1),
         lies(items, 7, -1, 9999),
         lies(items, 8, -1, 9999),
@@ -77,14 +98,6 @@ fn angle(items: &[i64; ITEMS], i: usize, side: usize) -> usize
     ensures { λ r. ⌜ r ≡ counted (item (now (items .entry)) i +ℤ pos side) ⌝ }
 {
     (items[i] + side as i64) as usize
-}
-
-// An item that is a letter.
-fn letter(items: &[i64; ITEMS], i: usize) -> u8
-    requires { ⌜ (i < 13) × (between (pos 0) (pos 255) (item (now items) i) ≡ true) ⌝ }
-    ensures { λ r. ⌜ r ≡ counted (item (now (items .entry)) i) ⌝ }
-{
-    items[i] as u8
 }
 
 fn datum(items: &[i64; ITEMS]) -> Datum

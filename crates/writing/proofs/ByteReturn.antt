@@ -23,7 +23,8 @@ use Rattle.reading.specs.Cell.{columnAt, Cell}
 use Rattle.writing.specs.Column.{zoneOneColumns, judgedColumn, columnOutput}
 use Rattle.writing.specs.Given.{outputAfter}
 use Rattle.writing.proofs.CellAfresh.{column-afresh}
-use Rattle.writing.proofs.ColumnExactly.{then-given, given}
+use Rattle.writing.proofs.ColumnExactly.{given}
+use Rattle.writing.proofs.NumberExactly.{then-rest}
 use Rattle.writing.proofs.GivenExactly.{Held, fine}
 use Rattle.writing.proofs.OwnGrid.{cell-facts}
 
@@ -61,7 +62,7 @@ module _ (s : List ℕ) (cell : Cell s) (k : ℕ) (h : k < factsIn s .grid .colu
         let zs = heightsFrom (columnAt s g k) 0 (g .posts) in
         let l = cell-of-level s cell in
         given (g .level) k zs (length out) Done
-        (then-given Done (l .level) (omega (arith, l .columns))
+        (then-rest Done (l .level) (omega (arith, l .columns))
         (fine (length-heights (columnAt s g k) 0 (g .posts) ∙ sym (l .posts)) column-held (omega (arith, l .bytes))))
 
     pub byte-return : ((i : ℕ) → getD s i 0 < 256)

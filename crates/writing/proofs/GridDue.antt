@@ -1,6 +1,6 @@
 -- The grid that a description in range makes due: within what a grid can be, and as many bytes as its columns have.
 use Prim.Native.Nat.{ℕ, _+_, _*_}
-use mathlib.Core.Path.{_≡_, refl, ap, _∙_}
+use mathlib.Core.Path.{_≡_, ap, _∙_}
 use mathlib.Core.Bool.{true}
 use Rattle.layout.specs.declared.Grid.{Grid}
 use Rattle.layout.proofs.Ranges.{Ranged, ranged}
@@ -10,10 +10,6 @@ use Rattle.describing.specs.Written.{dueFor, factsFor}
 use Rattle.describing.specs.declared.Description.{Description}
 use Rattle.headers.proofs.NearEdges.{edge-below}
 use Rattle.describing.proofs.RangedItems.{ranged-items}
-
-pub facts-grid : (d : Description) → factsFor d .grid ≡ dueFor d .grid
-unfolding factsFor
-facts-grid d = refl
 
 pub due-ranged : (d : Description) → inRange d ≡ true → (g : Grid) → g ≡ factsFor d .grid → Ranged g
 unfolding factsFor dueFor

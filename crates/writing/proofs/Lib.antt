@@ -1,7 +1,9 @@
 -- The laws of the writers.
 pub mod HeightSearch
 pub mod GivenExactly
+pub mod NumberExactly
 pub mod ColumnExactly
+pub mod ItemExactly
 pub mod CellExactly
 pub mod Joined
 pub mod ColumnParts

@@ -21,12 +21,14 @@ use Rattle.writing.specs.Grid.{afresh}
 abbrev pub postsDue : Grid → ℕ
 postsDue g = g .columns * g .posts
 
+-- W1, N9: 9 with the lowest item out of range, which is 0 where none is; else the rest
+unfoldable pub afterItem : ℕ → Outcome → Outcome
+afterItem bad rest = pick (eqb bad 0) rest (Refused (Item bad))
+
 -- W1: the order of the call, for an output of so many bytes
 unfoldable pub judgedCell : Description → List ℤ → ℕ → Outcome
 judgedCell d zs room =
-    pick (eqb (badItem d) 0)
-    (judgedPosts (postsDue (factsFor d .grid)) (factsFor d .grid .bytes .cell) (voidsAllowed (factsFor d)) zs room)
-    (Refused (Item (badItem d)))
+    afterItem (badItem d) (judgedPosts (postsDue (factsFor d .grid)) (factsFor d .grid .bytes .cell) (voidsAllowed (factsFor d)) zs room)
 
 -- the cell of a description and a grid
 unfoldable pub cellOf : Description → List ℤ → List ℕ

@@ -14,12 +14,12 @@ use answers::Outcome;
 use answers::Refusal;
 use columns::write::put_column;
 use describing::Description;
+use describing::facts::facts_for;
 use describing::items::bad_item;
 use describing::write::put_headers;
-use headers::angles::near_edge;
+use headers::judge::may_hold_voids;
 use layout::Grid;
 use layout::HEADER_BYTES;
-use layout::Laid;
 
 // Whether the cell may be written into so much room.
 fn judge(d: Description, heights: &[i16], room: usize) -> Outcome
@@ -29,20 +29,16 @@ fn judge(d: Description, heights: &[i16], room: usize) -> Outcome
     if item != 0 {
         return Outcome::Refused(Refusal::Item(item));
     }
-    match layout::lay(d.level, near_edge(d.latitude)) {
-        Laid::Out(grid) => {
-            let bytes = grid.bytes;
-            judge_posts(
-                heights,
-                d.partial != 0,
-                grid.columns * grid.posts,
-                bytes.cell,
-                room,
-            )
-        }
-        Laid::NoLevel => Outcome::Refused(Refusal::Item(1)),
-        Laid::NoZone => Outcome::Refused(Refusal::Item(2)),
-    }
+    let facts = facts_for(d);
+    let grid = facts.grid;
+    let bytes = grid.bytes;
+    judge_posts(
+        heights,
+        may_hold_voids(facts),
+        grid.columns * grid.posts,
+        bytes.cell,
+        room,
+    )
 }
 
 // The columns of a grid, each from its part of the heights.
@@ -87,11 +83,8 @@ pub fn write(out: &mut [u8], d: Description, heights: &[i16]) -> Outcome
 {
     let judged = judge(d, heights, out.len());
     if let Outcome::Done = judged {
-        match layout::lay(d.level, near_edge(d.latitude)) {
-            Laid::Out(grid) => put_cell(out, d, grid, heights),
-            Laid::NoLevel => {}
-            Laid::NoZone => {}
-        }
+        let facts = facts_for(d);
+        put_cell(out, d, facts.grid, heights);
     }
     judged
 }

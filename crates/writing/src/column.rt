@@ -2,27 +2,43 @@
 ghost use mathlib.Core.Path.{_≡_};
 ghost use lib.ListN.{length};
 ghost use Rattle.answers.specs.Told as told;
-ghost use Rattle.writing.specs.Column.{judgedColumn, columnTold, columnOutput};
+ghost use Rattle.writing.specs.Column.{placed, judgedColumn, columnTold, columnOutput};
 use crate::given::judge_posts;
 use answers::Outcome;
 use answers::Refusal;
 use columns::write::put_column;
-use layout::Laid;
+use layout::Grid;
+
+// The grid that has a column, or why there is no such column.
+pub enum Placed {
+    On(Grid),
+    Refused(Refusal),
+}
+
+// Column `number` of a level on the level's zone I grid; any numbers.
+pub fn place(level: usize, number: usize) -> Placed
+    ensures { λ r. ⌜ r ≡ placed level number ⌝ }
+{
+    if 3 <= level {
+        return Placed::Refused(Refusal::Item(1));
+    }
+    let grid = layout::grid_of(level, 0);
+    if grid.columns <= number {
+        return Placed::Refused(Refusal::OffGrid);
+    }
+    Placed::On(grid)
+}
 
 // Whether the column may be written into so much room.
 fn judge(level: usize, number: usize, heights: &[i16], room: usize) -> Outcome
     ensures { λ r. ⌜ r ≡ judgedColumn level number (now (heights .entry)) room ⌝ }
 {
-    match layout::lay(level, 0) {
-        Laid::Out(grid) => {
-            if grid.columns <= number {
-                return Outcome::Refused(Refusal::OffGrid);
-            }
+    match place(level, number) {
+        Placed::On(grid) => {
             let bytes = grid.bytes;
             judge_posts(heights, true, grid.posts, bytes.column, room)
         }
-        Laid::NoLevel => Outcome::Refused(Refusal::Item(1)),
-        Laid::NoZone => Outcome::Refused(Refusal::Item(1)),
+        Placed::Refused(refusal) => Outcome::Refused(refusal),
     }
 }
 

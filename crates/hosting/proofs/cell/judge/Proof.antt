@@ -1,9 +1,11 @@
 -- `judge` of a cell: the lowest bad item, then what was given, under the description that the items say.
-use Rattle.hosting.proofs.BytesExactly.{found-number, found-under}
+use Rattle.hosting.proofs.BytesExactly.{found-under}
 use Rattle.hosting.proofs.ItemNumbers.{in-range}
 use Rattle.hosting.proofs.cell.judge.Statement.{statement}
 use Rattle.hosting.proofs.cell.judge.Tie as tie
+use Rattle.hosting.specs.Cell.{judgedBytes}
 use Rattle.hosting.specs.Items.{badNumber}
+use Rattle.writing.proofs.ItemExactly.{found-bad}
 use borrow.Author.Needs.{needs}
 use mathlib.Core.Path.{_≡_, sym, _∙_}
 use native.Mathlib.Omega.{arith}
@@ -16,7 +18,8 @@ bad-number-requires : tie.Need-bad-number-requires
 bad-number-requires c κs = search needs
 
 returns : tie.Need-returns
-returns c = found-number _ _ _ _ (c .before .bad-number .ensures) (c .if1 .taken)
+unfolding judgedBytes
+returns c = found-bad _ _ _ (c .before .bad-number .ensures) (c .if1 .taken)
 
 description-requires : tie.Need-description-requires
 description-requires c κs = no-bad c

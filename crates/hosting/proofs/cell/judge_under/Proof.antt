@@ -1,39 +1,26 @@
 -- `judge_under`: what was given, for the grid that the description makes due.
-use Prim.Native.Nat.{_*_, _≤_}
-use Rattle.describing.proofs.LaidGrids.{grid-due, laid-always}
-use Rattle.describing.specs.Written.{dueFor}
-use Rattle.hosting.proofs.BytesExactly.{found-grid}
+use Prim.Native.Nat.{_≤_, _*_}
+use Rattle.headers.specs.declared.Facts.{Facts}
+use Rattle.hosting.proofs.BytesExactly.{found-facts}
 use Rattle.hosting.proofs.cell.judge_under.Statement.{statement}
 use Rattle.hosting.proofs.cell.judge_under.Tie as tie
-use Rattle.layout.proofs.Ranges.{Ranged}
-use Rattle.writing.proofs.GridDue.{facts-grid, due-ranged}
+use Rattle.writing.proofs.GridDue.{due-ranged}
 use Rattle.writing.proofs.Joined.{parts-small}
+use Rattle.writing.specs.Cell.{postsDue}
 use borrow.Author.Needs.{needs}
-use mathlib.Core.Path.{_≡_, refl, sym, _∙_}
+use mathlib.Core.Path.{ap, _∙_}
 use native.Mathlib.Omega.{arith}
 
--- the grid that was laid is the one due
-module _ (c : tie.After-laid) where
-  abbrev edge : tie.After-near-edge
-  edge = c .before .before .before
+few : (c : tie.After-facts-for) → postsDue (c .facts-for .result .grid) ≤ 3601 * 7214
+few c =
+    let r = due-ranged _ (c .before .before .pre) _ (ap (λ (f : Facts). f .grid) (c .facts-for .ensures)) in
+    parts-small (c .facts-for .result .grid .columns) (c .facts-for .result .grid .posts) (r .columns-high) (omega (arith, r .posts-high))
 
-  due : c .laid .given .0 .0 ≡ dueFor (edge .before .before .args .d) .grid
-  due = grid-due _ (edge .near-edge .result) (edge .near-edge .ensures) (c .before .before .lay .result) _ (c .before .before .lay .ensures) (c .laid .given .1)
+facts-for-requires : tie.Need-facts-for-requires
+facts-for-requires c κs = search needs
 
-  within : Ranged (c .laid .given .0 .0)
-  within = due-ranged _ (edge .before .before .pre) _ (due ∙ sym (facts-grid _))
-
-  few : c .laid .given .0 .0 .columns * c .laid .given .0 .0 .posts ≤ 3601 * 7214
-  few = parts-small (c .laid .given .0 .0 .columns) (c .laid .given .0 .0 .posts) (within .columns-high) (omega (arith, within .posts-high))
-
-near-edge-requires : tie.Need-near-edge-requires
-near-edge-requires c κs = search needs
-
-lay-requires : tie.Need-lay-requires
-lay-requires c κs = search needs
-
-enum-known-laid : tie.Need-enum-known-laid
-enum-known-laid c = search needs
+may-hold-voids-requires : tie.Need-may-hold-voids-requires
+may-hold-voids-requires c κs = search needs
 
 mul-judge-given : tie.Need-mul-judge-given
 mul-judge-given c = omega (arith, few (c .before .before .before .before))
@@ -41,38 +28,18 @@ mul-judge-given c = omega (arith, few (c .before .before .before .before))
 judge-given-requires : tie.Need-judge-given-requires
 judge-given-requires c κs = few (c .before .before .before .before)
 
-enum-told : tie.Need-enum-told
-enum-told c = search needs
-
-enum-told-2 : tie.Need-enum-told-2
-enum-told-2 c = search needs
-
 returns : tie.Need-returns
-returns c = c .judge-given .ensures ∙ found-grid _ _ _ _ (due (c .before .before .before .before .before))
-
-returns-2 : tie.Need-returns-2
-returns-2 c =
-    let l = c .before .before in
-    let e = l .before in
-    absurd (laid-always _ (e .near-edge .result) (e .near-edge .ensures) (l .lay .result) _ (e .before .before .pre) (l .lay .ensures) (c .enum-told .given .1) refl)
-
-returns-3 : tie.Need-returns-3
-returns-3 c =
-    let l = c .before .before in
-    let e = l .before in
-    absurd (laid-always _ (e .near-edge .result) (e .near-edge .ensures) (l .lay .result) _ (e .before .before .pre) (l .lay .ensures) (c .enum-told2 .given .1) refl)
+returns c =
+    let v = c .before .before in
+    let g = v .before .before .before in
+    c .judge-given .ensures ∙ found-facts _ _ _ (g .facts-for .result) _ (g .facts-for .ensures) (v .may-hold-voids .ensures)
 
 pub judge-under-spec : {M : Type 1} → statement M
 judge-under-spec =
     tie.close
     (tie.spec
-    near-edge-requires
-    lay-requires
-    enum-known-laid
+    facts-for-requires
+    may-hold-voids-requires
     mul-judge-given
     judge-given-requires
-    enum-told
-    enum-told-2
-    returns
-    returns-2
-    returns-3)
+    returns)

@@ -3,6 +3,7 @@ use Rattle.answers.specs.Told.{told, act}
 use Rattle.answers.specs.declared.Outcome.{Outcome}
 use Rattle.answers.specs.declared.Outcome.the-variants.{Done}
 use Rattle.describing.specs.declared.Description.{Description}
+use Rattle.headers.specs.declared.Facts.{Facts}
 use Rattle.hosting.proofs.BytesExactly.{Ready, ready}
 use Rattle.hosting.proofs.ItemNumbers.{in-range}
 use Rattle.hosting.proofs.cell.write.Statement.{statement}
@@ -34,12 +35,18 @@ enum-told : tie.Need-enum-told
 enum-told c = search needs
 
 description-requires : tie.Need-description-requires
-description-requires c κs = fine (c .before) .numbers
+description-requires c κs = fine c .numbers
+
+facts-for-requires : tie.Need-facts-for-requires
+facts-for-requires c κs = rw (c .description .ensures) (in-range _ (fine (c .before) .numbers))
 
 put-cell-requires : tie.Need-put-cell-requires
 put-cell-requires c κs =
-    let f = fine (c .before .before) in
-    rw (c .description .ensures) (in-range _ (f .numbers), (f .fine .even, f .fine .fine .roomy))
+    let d = c .before .before in
+    let f = fine (d .before) in
+    let same = ap (λ (x : Facts). x .grid) (c .before .facts-for .ensures) in
+    let said = d .description .ensures in
+    (rw said (in-range _ (f .numbers)), (same, (rw (same, said) (f .fine .even), rw (same, said) (f .fine .fine .roomy))))
 
 enum-told-2 : tie.Need-enum-told-2
 enum-told-2 c = search needs
@@ -51,8 +58,8 @@ returns : tie.Need-returns
 unfolding bytesTold bytesOutput
 returns c =
     let p = c .before .before in
-    let d = p .before in
-    let e = d .before .before in
+    let d = p .before .before .before in
+    let e = d .before in
     let a = start e .args in
     let zs = heightsIn (a .grid .now) in (
       ap (told act) (e .before .before .judge .ensures),
@@ -77,6 +84,7 @@ write-spec =
     judge-requires
     enum-told
     description-requires
+    facts-for-requires
     put-cell-requires
     enum-told-2
     same-length

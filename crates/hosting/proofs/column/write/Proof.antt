@@ -1,11 +1,11 @@
 -- `write` of a column: judged, and put at the front where it was accepted.
-use Prim.Native.Nat.{_+_, _*_}
+use Prim.Native.Nat.{_+_}
 use Rattle.answers.specs.Told.{told, act}
 use Rattle.answers.specs.declared.Outcome.{Outcome}
 use Rattle.answers.specs.declared.Outcome.the-variants.{Done}
 use Rattle.columns.proofs.ColumnBytes.{length-column}
 use Rattle.columns.specs.Column.{columnOf}
-use Rattle.hosting.proofs.ColumnBytesExactly.{Ready, ready, ready-small}
+use Rattle.hosting.proofs.ColumnBytesExactly.{Ready, ready}
 use Rattle.hosting.proofs.HeightBytes.{length-heights}
 use Rattle.hosting.proofs.column.write.Statement.{statement}
 use Rattle.hosting.proofs.column.write.Tie as tie
@@ -13,11 +13,12 @@ use Rattle.hosting.specs.Column.{judgedColumnBytes, columnBytesTold, col
 use Rattle.hosting.specs.Words.{heightsIn}
 use Rattle.layout.specs.Levels.{postsOf}
 use Rattle.octets.proofs.PasteLaws.{length-part}
+use Rattle.writing.proofs.NumberExactly.{number-small}
 use Rattle.writing.proofs.OutputPut.{front-put}
 use Rattle.writing.specs.Given.{outputAfter}
 use borrow.Author.Needs.{needs}
 use lib.ListN.{length}
-use mathlib.Core.Path.{_≡_, refl, sym, ap, _∙_}
+use mathlib.Core.Path.{_≡_, sym, ap, _∙_}
 use native.Mathlib.Omega.{arith}
 
 -- the call was accepted
@@ -54,7 +55,7 @@ put-requires c κs =
     let e = c .before in
     let a = start e .args in
     let f = fine e .fine in
-    let small = ready-small _ _ _ _ (fine e) in
+    let small = number-small _ _ (fine e .level-there) (fine e .number-there) in
     let part = length-part (a .out .now) 0 (12 + length (a .posts .now)) (omega arith) (omega (arith, f .even, f .fine .roomy)) in
     (part ∙ omega (arith, f .even), (omega (arith, f .even), (omega (arith, f .even, small .0), small .1)))
 

@@ -1,5 +1,5 @@
 -- `judge_heights`: what is left of the heights answers as all of them.
-use Prim.Native.Nat.{_+_, _*_, _-_, _≤_}
+use Prim.Native.Nat.{_-_, _≤_}
 use Rattle.hosting.proofs.HeightBytes.{length-heights, height-in}
 use Rattle.hosting.proofs.given.judge_heights.Statement.{statement}
 use Rattle.hosting.proofs.given.judge_heights.Tie as tie

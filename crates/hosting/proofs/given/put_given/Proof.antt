@@ -5,9 +5,7 @@ use Rattle.hosting.proofs.given.put_given.Statement.{statement}
 use Rattle.hosting.proofs.given.put_given.Tie as tie
 use Rattle.hosting.specs.Words.{heightsIn}
 use borrow.Author.Needs.{needs}
-use lib.IntN.{ℤ}
 use lib.ListN.{length, take}
-use mathlib.Core.List.{List}
 use mathlib.Core.Path.{_≡_, sym, ap, _∙_}
 use native.Mathlib.Omega.{arith}
 

@@ -5,7 +5,7 @@ use Rattle.hosting.proofs.items.accuracy.Tie as tie
 use Rattle.hosting.specs.Items.{item, accuracyFor}
 use Rattle.posts.proofs.Signed.{NotBelow, below, not-below}
 use borrow.Author.Needs.{needs}
-use mathlib.Core.Path.{_≡_, sym, ap}
+use mathlib.Core.Path.{sym, ap}
 use mir.Syntax.{w16, w64}
 use native.Mathlib.Omega.{arith}
 

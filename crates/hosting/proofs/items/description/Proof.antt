@@ -1,5 +1,6 @@
 -- `description`: each item is in its range, and is what the definition makes of it.
-use Rattle.hosting.proofs.NumberRanges.{from-zero, a-byte, security-letter}
+use Rattle.headers.specs.Rules.{isLetter, isVersion}
+use Rattle.hosting.proofs.NumberRanges.{from-zero, letters, versions, passes-byte}
 use Rattle.hosting.proofs.RangedNumbers.{RangedNumbers, ranged-numbers}
 use Rattle.hosting.proofs.items.description.Statement.{statement}
 use Rattle.hosting.proofs.items.description.Tie as tie
@@ -22,7 +23,7 @@ angle-requires-2 c κs = (omega arith, ((omega arith, omega arith), within (c .b
 letter-requires : tie.Need-letter-requires
 letter-requires c κs =
     let s = c .before .before .before in
-    (omega arith, security-letter (item (s .args .items .now) 3) (within s .security) .byte)
+    (omega arith, passes-byte isLetter letters (item (s .args .items .now) 3) (within s .security))
 
 count-requires-2 : tie.Need-count-requires-2
 count-requires-2 c κs =
@@ -32,7 +33,7 @@ count-requires-2 c κs =
 letter-requires-2 : tie.Need-letter-requires-2
 letter-requires-2 c κs =
     let s = c .before .before .before .before .before in
-    (omega arith, a-byte 65 90 (item (s .args .items .now) 5) (omega arith) (within s .version))
+    (omega arith, passes-byte isVersion versions (item (s .args .items .now) 5) (within s .version))
 
 datum-requires : tie.Need-datum-requires
 datum-requires c κs = search needs

@@ -13,11 +13,14 @@ lies-requires-2 c κs = search needs
 lies-requires-3 : tie.Need-lies-requires-3
 lies-requires-3 c κs = search needs
 
-is-security-requires : tie.Need-is-security-requires
-is-security-requires c κs = search needs
+has-security-requires : tie.Need-has-security-requires
+has-security-requires c κs = search needs
 
 lies-requires-4 : tie.Need-lies-requires-4
 lies-requires-4 c κs = search needs
+
+has-version-requires : tie.Need-has-version-requires
+has-version-requires c κs = search needs
 
 lies-requires-5 : tie.Need-lies-requires-5
 lies-requires-5 c κs = search needs
@@ -40,9 +43,6 @@ lies-requires-10 c κs = search needs
 lies-requires-11 : tie.Need-lies-requires-11
 lies-requires-11 c κs = search needs
 
-lies-requires-12 : tie.Need-lies-requires-12
-lies-requires-12 c κs = search needs
-
 returns : tie.Need-returns
 unfolding numberTests
 returns c =
@@ -50,16 +50,16 @@ returns c =
       c .before .before .before .before .before .before .before .before .before .before .before .before .lies .ensures,
       c .before .before .before .before .before .before .before .before .before .before .before .lies2 .ensures,
       c .before .before .before .before .before .before .before .before .before .before .lies3 .ensures,
-      c .before .before .before .before .before .before .before .before .before .is-security .ensures,
+      c .before .before .before .before .before .before .before .before .before .has-security .ensures,
       c .before .before .before .before .before .before .before .before .lies4 .ensures,
-      c .before .before .before .before .before .before .before .lies5 .ensures,
-      c .before .before .before .before .before .before .lies6 .ensures,
-      c .before .before .before .before .before .lies7 .ensures,
-      c .before .before .before .before .lies8 .ensures,
-      c .before .before .before .lies9 .ensures,
-      c .before .before .lies10 .ensures,
-      c .before .lies11 .ensures,
-      c .lies12 .ensures,
+      c .before .before .before .before .before .before .before .has-version .ensures,
+      c .before .before .before .before .before .before .lies5 .ensures,
+      c .before .before .before .before .before .lies6 .ensures,
+      c .before .before .before .before .lies7 .ensures,
+      c .before .before .before .lies8 .ensures,
+      c .before .before .lies9 .ensures,
+      c .before .lies10 .ensures,
+      c .lies11 .ensures,
     )
 
 pub number-tests-spec : {M : Type 1} → statement M
@@ -69,8 +69,9 @@ number-tests-spec =
     lies-requires
     lies-requires-2
     lies-requires-3
-    is-security-requires
+    has-security-requires
     lies-requires-4
+    has-version-requires
     lies-requires-5
     lies-requires-6
     lies-requires-7
@@ -78,5 +79,4 @@ number-tests-spec =
     lies-requires-9
     lies-requires-10
     lies-requires-11
-    lies-requires-12
     returns)

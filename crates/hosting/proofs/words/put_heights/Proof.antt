@@ -1,5 +1,5 @@
 -- `put_heights`: what stands so far is a paste of the first heights.
-use Prim.Native.Nat.{_+_, _*_, _-_, _≤_}
+use Prim.Native.Nat.{_+_, _-_, _≤_}
 use Rattle.hosting.proofs.HeightBytes.{length-heights, height-in}
 use Rattle.hosting.proofs.words.put_heights.Statement.{statement}
 use Rattle.hosting.proofs.words.put_heights.Tie as tie
@@ -7,10 +7,9 @@ use Rattle.hosting.specs.Words.{heightsIn}
 use Rattle.octets.proofs.PasteLaws.{paste-none, paste-more}
 use Rattle.octets.specs.Pastes.{pasted}
 use borrow.Author.Needs.{needs}
-use lib.IntN.{ℤ, pos}
-use lib.ListN.{length, take, getD, set, length-set}
+use lib.IntN.{pos}
+use lib.ListN.{length, take, getD, length-set}
 use lib.Seq.{take-all}
-use mathlib.Core.List.{List}
 use mathlib.Core.Path.{_≡_, refl, sym, ap, _∙_}
 use mir.Facts.{toZ-ofZ}
 use mir.Syntax.{w16}

@@ -1,52 +1,39 @@
--- `judge` of a column: the level's zone I grid, the number on it, then what was given.
-use Rattle.writing.proofs.ColumnExactly.{laid-off, laid-on, not-laid}
+-- `judge` of a column: its level and number, then what was given.
+use Rattle.writing.proofs.ColumnExactly.{judged-on}
 use Rattle.writing.proofs.column.judge.Statement.{statement}
 use Rattle.writing.proofs.column.judge.Tie as tie
+use Rattle.writing.specs.Column.{afterNumber, judgedColumn}
 use borrow.Author.Needs.{needs}
-use mathlib.Core.Path.{refl, sym, _∙_}
+use mathlib.Core.Path.{sym, _∙_}
 
-lay-requires : tie.Need-lay-requires
-lay-requires c κs = search needs
+place-requires : tie.Need-place-requires
+place-requires c κs = search needs
 
 enum-known-grid : tie.Need-enum-known-grid
 enum-known-grid c = search needs
 
-returns : tie.Need-returns
-returns c =
-    let g = c .before .before .before in
-    laid-off _ _ _ _ (g .grid .given .0 .0) (sym (g .before .before .lay .ensures) ∙ g .grid .given .1) (c .if1 .taken)
-
 judge-posts-requires : tie.Need-judge-posts-requires
 judge-posts-requires c κs = search needs
 
-enum-told : tie.Need-enum-told
-enum-told c = search needs
+enum-known-refusal : tie.Need-enum-known-refusal
+enum-known-refusal c = search needs
 
-enum-told-2 : tie.Need-enum-told-2
-enum-told-2 c = search needs
+returns : tie.Need-returns
+returns c =
+    let g = c .before .before .before in
+    c .judge-posts .ensures ∙ judged-on _ _ _ _ (g .grid .given .0 .0) (sym (g .before .before .place .ensures) ∙ g .grid .given .1)
 
 returns-2 : tie.Need-returns-2
-returns-2 c =
-    let u = c .before .before in
-    let g = u .before .before .before in
-    c .judge-posts .ensures ∙ laid-on _ _ _ _ (g .grid .given .0 .0) (sym (g .before .before .lay .ensures) ∙ g .grid .given .1) (u .if1 .left)
-
-returns-3 : tie.Need-returns-3
-returns-3 c = not-laid _ _ _ _ _ (sym (c .before .before .lay .ensures) ∙ c .enum-told .given .1) refl
-
-returns-4 : tie.Need-returns-4
-returns-4 c = not-laid _ _ _ _ _ (sym (c .before .before .lay .ensures) ∙ c .enum-told2 .given .1) refl
+unfolding judgedColumn afterNumber
+returns-2 c = rw (sym (c .before .before .before .place .ensures) ∙ c .before .refusal .given .1)
 
 pub judge-spec : {M : Type 1} → statement M
 judge-spec =
     tie.close
     (tie.spec
-    lay-requires
+    place-requires
     enum-known-grid
-    returns
     judge-posts-requires
-    enum-told
-    enum-told-2
-    returns-2
-    returns-3
-    returns-4)
+    enum-known-refusal
+    returns
+    returns-2)

@@ -6,7 +6,8 @@ use Rattle.answers.specs.declared.Outcome.the-variants.{Done}
 use Rattle.columns.specs.Column.{columnOf}
 use Rattle.columns.proofs.ColumnBytes.{length-column}
 use Rattle.octets.proofs.PasteLaws.{length-part}
-use Rattle.writing.proofs.ColumnExactly.{Ready, ready, ready-small}
+use Rattle.writing.proofs.ColumnExactly.{Ready, ready}
+use Rattle.writing.proofs.NumberExactly.{number-small}
 use Rattle.writing.proofs.OutputPut.{front-put}
 use Rattle.writing.proofs.column.write.Statement.{statement}
 use Rattle.writing.proofs.column.write.Tie as tie
@@ -54,7 +55,9 @@ put-column-requires c κs =
     let e = c .before in
     let a = start e .args in
     let f = fine e .fine in
-    (length-part (a .out .now) 0 (12 + 2 * length (a .heights .now)) (omega arith) (omega (arith, f .long, f .roomy)) ∙ omega arith, ready-small _ _ _ _ (fine e))
+    let small = number-small _ _ (fine e .level-there) (fine e .number-there) in
+    let part = length-part (a .out .now) 0 (12 + 2 * length (a .heights .now)) (omega arith) (omega (arith, f .long, f .roomy)) in
+    (part ∙ omega arith, (omega (arith, f .long, small .0), small .1))
 
 enum-told-2 : tie.Need-enum-told-2
 enum-told-2 c = search needs
