@@ -4,7 +4,7 @@ use mathlib.Core.List.{map}
 use Rattle.layout.specs.Levels.{latitudeInterval, postsOf}
 use Rattle.layout.specs.Zones.{nearEdge, factorAmong, factorOf}
 use Rattle.layout.specs.Grid.{longitudeInterval, columnsOf, cellBytes, gridOf}
-use Rattle.headers.specs.Due.{edgeOf}
+use Rattle.angles.specs.Angles.{edgeOf}
 use Rattle.octets.specs.Places.{places}
 use Rattle.octets.specs.Sums.{sumOf}
 use Rattle.columns.specs.Column.{preamble, wordsOf, sealed, columnOf}

@@ -24,13 +24,13 @@ use Rattle.writing.specs.Cell.{postsDue}
 use Rattle.writing.proofs.GridDue.{due-ranged}
 use Rattle.writing.proofs.Joined.{parts-small}
 use Rattle.writing.proofs.ItemExactly.{item, then-rest}
-use Rattle.hosting.specs.Items.{numberTests, descriptionOf}
+use Rattle.numbering.specs.Items.{numberTests, descriptionOf}
 use Rattle.hosting.specs.Cell.{judgedBytes, bytesTold}
 use Rattle.hosting.specs.Column.{columnBytesTold}
 use Rattle.hosting.proofs.GivenBytes.{BytesRow, differ, as-heights}
 use Rattle.hosting.proofs.BytesExactly as cell
 use Rattle.hosting.proofs.ColumnBytesExactly as column
-use Rattle.hosting.proofs.ItemNumbers.{number-exactly, in-range}
+use Rattle.numbering.proofs.ItemNumbers.{number-exactly, in-range}
 use Rattle.dted.specs.Grid.{saidOfLaid, gridTold}
 use Rattle.dted.specs.Description.{saidOfDescribed}
 use Rattle.demands.proofs.PlacesFit.{Fits, most, headers-fit, given-fits, number-fits}

@@ -21,10 +21,10 @@ use Rattle.writing.specs.Given.{outputAfter}
 use Rattle.writing.specs.Grid.{heightAt, saidOf}
 use Rattle.writing.proofs.Restores.{restored-description, restored-accepted, restored-post}
 use Rattle.hosting.specs.Words.{heightsIn}
-use Rattle.hosting.specs.Items.{descriptionOf}
+use Rattle.numbering.specs.Items.{descriptionOf}
 use Rattle.hosting.specs.Cell.{judgedBytes, bytesTold, bytesOutput}
 use Rattle.hosting.proofs.BytesExactly.{Ready, ready}
-use Rattle.hosting.proofs.ItemNumbers.{in-range, description-back}
+use Rattle.numbering.proofs.ItemNumbers.{in-range, description-back}
 use Rattle.dted.specs.Description.{itemsAfter}
 use Rattle.dted.proofs.cells.dted_intake.Reads as intake
 use Rattle.dted.proofs.cells.dted_intake.Kinds as intake-kinds

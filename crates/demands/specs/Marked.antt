@@ -8,7 +8,7 @@ use Rattle.octets.specs.Choice.{pick}
 use Rattle.layout.specs.Zones.{nearEdge}
 use Rattle.layout.specs.Grid.{longitudeInterval, columnsOf, cellBytes, gridOf}
 use Rattle.columns.specs.Column.{sealed, columnOf, sumAt}
-use Rattle.headers.specs.Due.{edgeOf}
+use Rattle.angles.specs.Angles.{edgeOf}
 use Rattle.headers.specs.declared.Facts.{Facts}
 use Rattle.posts.specs.Words.{wordAllowed, postOf}
 use Rattle.posts.specs.declared.Post.{Post}

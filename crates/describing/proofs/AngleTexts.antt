@@ -12,9 +12,9 @@ use Rattle.octets.specs.Digits.{digitsAt, decimalAt, digitsOf}
 use Rattle.octets.proofs.ChoiceLaws.{by-test}
 use Rattle.octets.proofs.DigitLaws.{length-digits, decimal-back, digits-are}
 use Rattle.octets.proofs.TextLaws.{part-has}
-use Rattle.headers.specs.Angles.{Form, degreesIn, letterIn, isAngle, isOrigin, angleOf, degreesOf, letterOf, isSame, isCorner}
+use Rattle.angles.specs.Angles.{Form, degreesIn, letterIn, isAngle, isOrigin, angleOf, degreesOf, letterOf, isSame, isCorner}
 use Rattle.describing.specs.Written.{angleText}
-use Rattle.headers.specs.declared.angles.Axis.{Axis}
+use Rattle.angles.specs.declared.Axis.{Axis}
 use Rattle.octets.proofs.PartLaws.{decimal-part, digits-part}
 use Rattle.describing.proofs.TextWidths.{length-angle}
 

@@ -14,12 +14,12 @@ use Rattle.octets.specs.Texts.{ascii, differ, has}
 use Rattle.octets.proofs.TestLaws.{below}
 use Rattle.layout.specs.Levels.{latitudeInterval}
 use Rattle.layout.specs.Grid.{gridOf}
-use Rattle.headers.specs.Angles.{northward, eastward, form, degreesIn, letterIn, angleOf}
+use Rattle.angles.specs.Angles.{northward, eastward, form, degreesIn, letterIn, angleOf}
 use Rattle.headers.specs.Due.{originAt, levelAt, dueIn}
 use Rattle.describing.specs.Written.{dueFor, angleText, textFor, headersFor}
 use Rattle.describing.specs.Items.{inRange}
 use Rattle.describing.specs.declared.Description.{Description}
-use Rattle.headers.specs.declared.angles.Axis.{Axis}
+use Rattle.angles.specs.declared.Axis.{Axis}
 use Rattle.octets.proofs.PartLaws.{byte-part, text-part}
 use Rattle.describing.proofs.AngleTexts.{letter-back, degrees-back, degrees-small, angle-back}
 use Rattle.describing.proofs.WrittenLength.{field-written}

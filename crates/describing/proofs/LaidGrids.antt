@@ -2,10 +2,10 @@
 use Prim.Native.Nat.{ℕ, _<_}
 use mathlib.Core.Path.{_≡_}
 use mathlib.Core.Bool.{true}
-use Rattle.headers.specs.Due.{edgeOf}
+use Rattle.angles.specs.Angles.{edgeOf}
 use Rattle.describing.specs.Items.{inRange}
 use Rattle.describing.specs.declared.Description.{Description}
-use Rattle.headers.proofs.NearEdges.{edge-below}
+use Rattle.angles.proofs.NearEdges.{edge-below}
 use Rattle.describing.proofs.RangedItems.{ranged-items}
 
 pub edge-within : (d : Description) (edge : ℕ) → edge ≡ edgeOf (d .latitude) → inRange d ≡ true → (d .level < 3) × (edge < 90)

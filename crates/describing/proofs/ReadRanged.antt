@@ -1,5 +1,5 @@
 -- What good headers say is in range: a description that was read may be written.
-use Prim.Native.Nat.{ℕ, _<_}
+use Prim.Native.Nat.{ℕ}
 use native.Mathlib.Omega.{arith}
 use mathlib.Core.Path.{_≡_, refl, sym, subst}
 use mathlib.Core.Bool.{true}
@@ -16,7 +16,7 @@ use Rattle.octets.proofs.PartLaws.{byte-part, decimal-part}
 use Rattle.headers.specs.Judged.{judged, factsIn, Follows}
 use Rattle.headers.specs.declared.Judged.{Judged}
 use Rattle.headers.specs.declared.Judged.the-variants.{Good, Refused}
-use Rattle.headers.specs.Angles.{northward, eastward}
+use Rattle.angles.specs.Angles.{northward, eastward}
 use Rattle.headers.specs.Due.{levelAt, originAt, dueIn}
 use Rattle.headers.specs.Rules.{isLetter, isVersion, holds}
 use Rattle.headers.proofs.Exactly.{good-follows, follows-good}

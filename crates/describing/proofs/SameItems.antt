@@ -6,7 +6,7 @@ use mathlib.Core.List.{List}
 use lib.ListN.{length, take}
 use Rattle.octets.specs.Texts.{ascii}
 use Rattle.octets.proofs.PartLaws.{decimal-alike, digits-alike, text-alike}
-use Rattle.headers.specs.Angles.{northward, eastward}
+use Rattle.angles.specs.Angles.{northward, eastward}
 use Rattle.headers.proofs.SameHeaders.{byte-same, level-same, origin-same}
 use Rattle.describing.specs.Described.{accuracyAt, datumAt, itemsIn}
 

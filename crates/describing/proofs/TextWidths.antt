@@ -4,7 +4,7 @@ use native.Mathlib.Omega.{arith}
 use mathlib.Core.Path.{_≡_, refl, ap}
 use lib.ListN.{length, length-append}
 use Rattle.octets.proofs.DigitLaws.{length-digits}
-use Rattle.headers.specs.Angles.{Form, degreesOf}
+use Rattle.angles.specs.Angles.{Form, degreesOf}
 use Rattle.headers.specs.Rules.{numberOf, formOf, widthOf}
 use Rattle.describing.specs.Written.{dueFor, axisOf, angleFor, angleText, accuracyFor, accuracyText, datumText, textFor}
 use Rattle.describing.specs.declared.Accuracy.{Accuracy}
@@ -12,7 +12,7 @@ use Rattle.describing.specs.declared.Accuracy.the-variants.{Metres, Unkn
 use Rattle.describing.specs.declared.Datum.{Datum}
 use Rattle.describing.specs.declared.Datum.the-variants.{Msl, E96}
 use Rattle.describing.specs.declared.Description.{Description}
-use Rattle.headers.specs.declared.angles.Axis.{Axis}
+use Rattle.angles.specs.declared.Axis.{Axis}
 use Rattle.fields.specs.declared.Kind.{Kind}
 use Rattle.fields.specs.declared.Kind.the-variants as kind
 

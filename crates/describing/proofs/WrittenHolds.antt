@@ -18,8 +18,7 @@ use Rattle.layout.specs.Levels.{latitudeInterval}
 use Rattle.layout.specs.Grid.{gridOf}
 use Rattle.layout.specs.declared.Grid.{Grid}
 use Rattle.layout.proofs.Ranges.{Ranged, ranged}
-use Rattle.headers.specs.Angles.{northward, eastward, degreesIn, letterIn, degreesOf, letterOf}
-use Rattle.headers.specs.Due.{edgeOf}
+use Rattle.angles.specs.Angles.{northward, eastward, degreesIn, letterIn, degreesOf, letterOf, edgeOf}
 use Rattle.headers.specs.Rules.{textOf, numberOf, isNumber, formOf, mayCarry, angleHolds, isAccuracy, isLevel, isSecurity, isEdition, isVertical, holds}
 use Rattle.describing.specs.Items.{inRange}
 use Rattle.describing.specs.Written.{dueFor, axisOf, angleFor, angleText, accuracyFor, accuracyText, datumText, textFor}
@@ -36,7 +35,7 @@ use Rattle.fields.specs.declared.Angle.the-variants as angle
 use Rattle.fields.specs.declared.Kind.{Kind}
 use Rattle.fields.specs.declared.Kind.the-variants as kind
 use Rattle.describing.proofs.AngleTexts.{letter-back, degrees-back, angle-is, degrees-small, is-origin, is-same, is-corner}
-use Rattle.headers.proofs.NearEdges.{edge-below}
+use Rattle.angles.proofs.NearEdges.{edge-below}
 use Rattle.describing.proofs.RangedItems.{RangedItems, ranged-items}
 
 -- a text stands in itself

@@ -5,7 +5,7 @@ use lib.ListN.{getD}
 use Rattle.octets.specs.Choice.{pick}
 use Rattle.octets.specs.Digits.{digitsAt, decimalAt}
 use Rattle.octets.specs.Texts.{ascii, has}
-use Rattle.headers.specs.Angles.{northward, eastward}
+use Rattle.angles.specs.Angles.{northward, eastward}
 use Rattle.headers.specs.Due.{originAt, levelAt}
 use Rattle.headers.specs.Judged.{judged}
 use Rattle.describing.specs.declared.Accuracy.{Accuracy}

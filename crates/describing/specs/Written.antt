@@ -6,8 +6,7 @@ use Rattle.octets.specs.Digits.{digitsOf}
 use Rattle.octets.specs.Texts.{ascii}
 use Rattle.octets.specs.Pastes.{pasted}
 use Rattle.layout.specs.Grid.{gridOf, headerBytes}
-use Rattle.headers.specs.Angles.{Form, northward, eastward, degreesOf, letterOf}
-use Rattle.headers.specs.Due.{edgeOf}
+use Rattle.angles.specs.Angles.{Form, northward, eastward, degreesOf, letterOf, edgeOf}
 use Rattle.headers.specs.Rules.{textOf, numberOf, formOf}
 use Rattle.fields.specs.Table.{fields}
 use Rattle.describing.specs.declared.Accuracy.{Accuracy}
@@ -15,7 +14,7 @@ use Rattle.describing.specs.declared.Accuracy.the-variants.{Metres, Unkn
 use Rattle.describing.specs.declared.Datum.{Datum}
 use Rattle.describing.specs.declared.Datum.the-variants.{Msl, E96}
 use Rattle.describing.specs.declared.Description.{Description}
-use Rattle.headers.specs.declared.angles.Axis.{Axis}
+use Rattle.angles.specs.declared.Axis.{Axis}
 use Rattle.headers.specs.declared.Due.{Due}
 use Rattle.headers.specs.declared.Facts.{Facts}
 use Rattle.fields.specs.declared.Angle.{Angle}

@@ -4,7 +4,7 @@ use lib.IntN.{ℤ}
 use Rattle.answers.specs.Told.{Told, done, numbered}
 use Rattle.describing.specs.declared.Described.{Described}
 use Rattle.describing.specs.declared.Described.the-variants.{As, Refused}
-use Rattle.hosting.specs.Items.{numbersOf}
+use Rattle.numbering.specs.Items.{numbersOf}
 
 abbrev pub saidOfDescribed : Described → Told
 saidOfDescribed (As d) = done

@@ -4,8 +4,8 @@ ghost use Rattle.packing.specs.Packed.{packed};
 ghost use Rattle.describing.specs.Described.{described};
 ghost use Rattle.dted.specs.Description.{saidOfDescribed, itemsAfter};
 use describing::Described;
-use hosting::items::ITEMS;
-use hosting::numbers::put_numbers;
+use numbering::items::ITEMS;
+use numbering::numbers::put_numbers;
 
 #[no_mangle]
 pub extern "C" fn dted_describe(cell: &[u8], items: &mut [i64; ITEMS]) -> u64

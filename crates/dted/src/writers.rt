@@ -3,7 +3,7 @@ ghost use mathlib.Core.Path.{_≡_};
 ghost use Rattle.packing.specs.Packed.{packed};
 ghost use Rattle.hosting.specs.Cell.{bytesTold, bytesOutput};
 ghost use Rattle.hosting.specs.Column.{columnBytesTold, columnBytesOutput};
-use hosting::items::ITEMS;
+use numbering::items::ITEMS;
 
 #[no_mangle]
 pub extern "C" fn dted_write(out: &mut [u8], items: &[i64; ITEMS], grid: &[u8]) -> u64

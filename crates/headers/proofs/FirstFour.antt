@@ -13,16 +13,16 @@ use Rattle.octets.proofs.DigitLaws.{decimal-below}
 use Rattle.octets.proofs.ChoiceLaws.{both-true, by-test, clash}
 use Rattle.layout.specs.Grid.{gridOf}
 use Rattle.layout.proofs.Ranges.{Ranged, ranged}
-use Rattle.headers.specs.Angles.{form, northward, eastward, isAngle, degreesIn, letterIn, isOrigin, angleOf}
-use Rattle.headers.specs.Due.{originAt, levelAt, edgeOf, dueIn}
+use Rattle.angles.specs.Angles.{form, northward, eastward, isAngle, degreesIn, letterIn, isOrigin, angleOf, edgeOf}
+use Rattle.headers.specs.Due.{originAt, levelAt, dueIn}
 use Rattle.headers.specs.Rules.{holds, angleHolds}
 use Rattle.fields.specs.Table.{fieldAt}
 use Rattle.headers.specs.Judged.{keeps, factsIn, judged, Follows}
-use Rattle.headers.specs.declared.angles.Axis.{Axis}
+use Rattle.angles.specs.declared.Axis.{Axis}
 use Rattle.headers.specs.declared.Due.{Due}
 use Rattle.headers.specs.declared.Facts.{Facts}
 use Rattle.headers.specs.declared.Judged.the-variants.{Good}
-use Rattle.headers.proofs.NearEdges.{edge-below}
+use Rattle.angles.proofs.NearEdges.{edge-below}
 use Rattle.headers.proofs.Exactly.{good-follows}
 
 pub nothing-due : (s : List ℕ) (d e : Due) (i : ℕ) → i < 4 → keeps s d (fieldAt i) ≡ keeps s e (fieldAt i)

@@ -1,6 +1,4 @@
 -- The laws and theorems of headers.
-pub mod NearEdges
-pub mod Origins
 pub mod TableRows
 pub mod BrokenRows
 pub mod Exactly

@@ -2,12 +2,11 @@
 use Prim.Native.Nat.{ℕ, _-_}
 use mathlib.Core.List.{List}
 use lib.ListN.{getD, take, drop}
-use lib.Dec.{leb}
 use Rattle.octets.specs.Choice.{pick}
 use Rattle.octets.specs.Texts.{ascii, has}
 use Rattle.layout.specs.Grid.{gridOf}
-use Rattle.headers.specs.Angles.{northward, eastward, form, degreesIn, letterIn, angleOf}
-use Rattle.headers.specs.declared.angles.Axis.{Axis}
+use Rattle.angles.specs.Angles.{northward, eastward, form, degreesIn, letterIn, angleOf, edgeOf}
+use Rattle.angles.specs.declared.Axis.{Axis}
 use Rattle.headers.specs.declared.Due.{Due}
 
 -- H2, H3: DDDMMSSH at an offset, as an angle counted from 90 S or 180 W
@@ -17,10 +16,6 @@ originAt a s at = angleOf a (degreesIn (form 3 (ascii "0000")) (take 8 (drop at 
 -- H4: 0300, 0030 or 0010 fixes the level
 unfoldable pub levelAt : List ℕ → ℕ
 levelAt s = pick (has s 24 (ascii "0300")) 0 (pick (has s 24 (ascii "0030")) 1 2)
-
--- Z1: the near edge of a cell whose origin lies so many degrees north of 90 S
-unfoldable pub edgeOf : ℕ → ℕ
-edgeOf latitude = pick (leb 90 latitude) (latitude - 90) (89 - latitude)
 
 unfoldable pub dueIn : List ℕ → Due
 dueIn s = record {

@@ -8,7 +8,7 @@ use Rattle.octets.specs.Choice.{both, either}
 use Rattle.octets.specs.Digits.{digitsAt, decimalAt}
 use Rattle.octets.specs.Texts.{ascii, has}
 use Rattle.layout.specs.declared.Grid.{Grid}
-use Rattle.headers.specs.Angles.{Form, form, northward, eastward, isAngle, degreesIn, letterIn, isOrigin, isSame, isCorner}
+use Rattle.angles.specs.Angles.{Form, form, northward, eastward, isAngle, degreesIn, letterIn, isOrigin, isSame, isCorner}
 use Rattle.headers.specs.declared.Due.{Due}
 use Rattle.fields.specs.declared.Text.{Text}
 use Rattle.fields.specs.declared.Text.the-variants as text

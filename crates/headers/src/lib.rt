@@ -3,7 +3,6 @@
 use answers::Refusal;
 use layout::Grid;
 
-pub mod angles;
 mod bearings;
 pub mod judge;
 pub mod letters;

@@ -3,9 +3,9 @@ ghost use mathlib.Core.Path.{_≡_};
 ghost use Prim.Native.Nat.{_≤_};
 ghost use lib.ListN.{length};
 ghost use Rattle.octets.specs.Texts.{ascii};
-ghost use Rattle.headers.specs.Angles.{form, degreesIn, letterIn, angleOf};
+ghost use Rattle.angles.specs.Angles.{form, degreesIn, letterIn, angleOf};
 ghost use Rattle.headers.specs.Due.{levelAt};
-use crate::angles::Axis;
+use angles::Axis;
 use octets::digits::decimal;
 use octets::texts::stands;
 

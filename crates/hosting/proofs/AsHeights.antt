@@ -17,11 +17,11 @@ use Rattle.writing.specs.Given.{outputAfter}
 use Rattle.writing.specs.Cell.{postsDue, cellOf, cellTold, cellOutput}
 use Rattle.writing.specs.Column.{columnTold, columnOutput}
 use Rattle.hosting.specs.Words.{heightsIn, bytesFor}
-use Rattle.hosting.specs.Items.{badNumber, descriptionOf, numbersOf}
+use Rattle.numbering.specs.Items.{badNumber, descriptionOf, numbersOf}
 use Rattle.hosting.specs.Cell.{bytesTold, bytesOutput}
 use Rattle.hosting.specs.Column.{columnBytesTold, columnBytesOutput}
 use Rattle.hosting.proofs.HeightBytes.{Words, heights-back, length-bytes-for}
-use Rattle.hosting.proofs.ItemNumbers.{numbers-back, numbers-ranged}
+use Rattle.numbering.proofs.ItemNumbers.{numbers-back, numbers-ranged}
 use Rattle.hosting.proofs.BytesExactly as cell
 use Rattle.hosting.proofs.ColumnBytesExactly as column
 

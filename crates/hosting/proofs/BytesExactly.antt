@@ -17,11 +17,11 @@ use Rattle.writing.proofs.ItemExactly.{ItemRow, none-bad}
 use Rattle.writing.proofs.ItemExactly as by-item
 use Rattle.writing.proofs.CellExactly.{items-fine}
 use Rattle.hosting.specs.Words.{heightsIn}
-use Rattle.hosting.specs.Items.{numberTests, badNumber, descriptionOf}
+use Rattle.numbering.specs.Items.{numberTests, badNumber, descriptionOf}
 use Rattle.hosting.specs.Given.{judgedGiven}
 use Rattle.hosting.specs.Cell.{judgedUnder, judgedBytes}
 use Rattle.hosting.proofs.GivenBytes.{BytesRow, bytes-given, given-bytes, FineBytes, bytes-fine, even-judged}
-use Rattle.hosting.proofs.ItemNumbers.{number-exactly, in-range}
+use Rattle.numbering.proofs.ItemNumbers.{number-exactly, in-range}
 
 module _ (d : Description) (grid : List ℕ) (room : ℕ) where
   -- under a description, by the facts that were found

@@ -1,8 +1,5 @@
--- The laws of a C host's items and heights.
+-- The laws of a C host's heights, and of its writers.
 pub mod HeightBytes
-pub mod NumberRanges
-pub mod RangedNumbers
-pub mod ItemNumbers
 pub mod GivenBytes
 pub mod BytesExactly
 pub mod ColumnBytesExactly

@@ -11,7 +11,7 @@ use Rattle.describing.specs.declared.Description.{Description}
 use Rattle.writing.specs.Given.{outputAfter}
 use Rattle.writing.specs.Cell.{postsDue, afterItem, cellOf}
 use Rattle.hosting.specs.Words.{heightsIn}
-use Rattle.hosting.specs.Items.{badNumber, descriptionOf}
+use Rattle.numbering.specs.Items.{badNumber, descriptionOf}
 use Rattle.hosting.specs.Given.{judgedGiven}
 
 -- N10, N11, N12: under a description

@@ -14,9 +14,6 @@ ghost use Rattle.hosting.specs.Words.{heightsIn};
 ghost use Rattle.hosting.specs.Cell.{judgedUnder, judgedBytes, bytesTold, bytesOutput};
 use crate::given::judge_given;
 use crate::given::put_given;
-use crate::items::ITEMS;
-use crate::items::bad_number;
-use crate::items::description;
 use answers::Outcome;
 use answers::Refusal;
 use describing::Description;
@@ -25,6 +22,9 @@ use describing::write::put_headers;
 use headers::judge::may_hold_voids;
 use layout::Grid;
 use layout::HEADER_BYTES;
+use numbering::items::ITEMS;
+use numbering::items::bad_number;
+use numbering::items::description;
 
 // Whether the grid may be written under a description into so much room.
 fn judge_under(d: Description, grid: &[u8], room: usize) -> Outcome

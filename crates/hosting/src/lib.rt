@@ -1,7 +1,5 @@
-// What a C host's calls stand on: the items of a description as numbers, and both writers over heights in bytes.
+// What a C host's writers stand on: both writers over items as numbers and heights in bytes.
 pub mod cell;
 pub mod column;
 mod given;
-pub mod items;
-pub mod numbers;
 mod words;

@@ -21,12 +21,6 @@ number-back n v h =
     (λ i k. ap (λ (m : ℕ). getD (bytesOf n v) m 0) (omega arith))
     ∙ value-places 256 n v (lit< tt) h
 
--- the number that stands in a part, seen from the part
-pub number-part : (s : List ℕ) (at n : ℕ) → numberAt s at n ≡ numberAt (drop at s) 0 n
-number-part s at n =
-    value-same 256 (λ (i : ℕ). getD s (at + i) 0) (λ (i : ℕ). getD (drop at s) (0 + i) 0) n
-    (λ i k. let e : 0 + i ≡ i = omega arith in rw (e, getD-drop at s i 0))
-
 -- the bytes of the number that stands there are the bytes that stand there
 pub bytes-back : (s : List ℕ) (at n : ℕ) → n ≤ length (drop at s) → ((i : ℕ) → getD s i 0 < 256)
     → bytesOf n (numberAt s at n) ≡ take n (drop at s)

@@ -1,10 +1,10 @@
 -- Laws of byte sums: what is left, one byte replaced, bounds.
 use Prim.Native.Nat.{ℕ, zero, suc, _+_, _*_, _≤_, _<_}
-use mathlib.Core.Path.{_≡_, refl}
+use mathlib.Core.Path.{_≡_}
 use mathlib.Core.List.{List, [], _∷_, _++_}
 use native.Mathlib.Numerals.{add-one}
 use native.Mathlib.Omega.{arith}
-use lib.ListN.{length, getD, set, take, drop, replicate, drop-of-length-le}
+use lib.ListN.{length, getD, set, take, drop, drop-of-length-le}
 use lib.Seq.{drop-cons}
 use Rattle.octets.specs.Sums.{sumOf}
 
@@ -40,8 +40,3 @@ unfolding sumOf
 sum-take zero l = omega arith
 sum-take (suc n) [] = omega arith
 sum-take (suc n) (x ∷ l) = omega (arith, sum-take n l)
-
-pub sum-zeros : (n : ℕ) → sumOf (replicate n 0) ≡ 0
-unfolding sumOf
-sum-zeros zero = refl
-sum-zeros (suc n) = omega (arith, sum-zeros n)

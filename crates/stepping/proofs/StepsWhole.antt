@@ -14,14 +14,15 @@ use Rattle.layout.specs.Grid.{gridOf, laid}
 use Rattle.layout.specs.declared.Grid.{Grid}
 use Rattle.layout.specs.declared.Laid.the-variants.{Out}
 use Rattle.layout.proofs.Ranges.{laid-in}
-use Rattle.headers.specs.Due.{levelAt, edgeOf}
+use Rattle.headers.specs.Due.{levelAt}
+use Rattle.angles.specs.Angles.{edgeOf}
 use Rattle.headers.specs.Judged.{judged, factsIn, voidsAllowed}
 use Rattle.headers.specs.declared.Facts.{Facts}
 use Rattle.headers.specs.declared.Judged.{Judged}
 use Rattle.headers.specs.declared.Judged.the-variants.{Good, Refused}
 use Rattle.headers.proofs.Exactly.{good-follows}
 use Rattle.headers.proofs.FirstFour.{good-facts, level-below}
-use Rattle.headers.proofs.NearEdges.{edge-below}
+use Rattle.angles.proofs.NearEdges.{edge-below}
 use Rattle.headers.proofs.SameHeaders.{same-headers}
 use Rattle.reading.specs.Intake.{takenBy, taken}
 use Rattle.reading.proofs.NeverMore.{numbered-not-more}

@@ -13,7 +13,7 @@ use Rattle.layout.specs.Grid.{laid, headerBytes}
 use Rattle.layout.specs.declared.Grid.{Grid}
 use Rattle.layout.specs.declared.Laid.{Laid}
 use Rattle.layout.specs.declared.Laid.the-variants.{Out, NoLevel, NoZone}
-use Rattle.headers.specs.Due.{edgeOf}
+use Rattle.angles.specs.Angles.{edgeOf}
 use Rattle.headers.specs.Judged.{judged, voidsAllowed}
 use Rattle.headers.specs.declared.Judged.{Judged}
 use Rattle.headers.specs.declared.Judged.the-variants as headers

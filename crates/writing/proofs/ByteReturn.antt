@@ -13,9 +13,10 @@ use Rattle.layout.specs.Grid.{gridOf}
 use Rattle.layout.specs.declared.Grid.{Grid}
 use Rattle.layout.proofs.ZoneOne.{zone-one-most}
 use Rattle.posts.proofs.RoundTrip.{heights-more}
-use Rattle.headers.specs.Due.{levelAt, edgeOf}
+use Rattle.headers.specs.Due.{levelAt}
+use Rattle.angles.specs.Angles.{edgeOf}
 use Rattle.headers.specs.Judged.{factsIn, voidsAllowed}
-use Rattle.headers.proofs.NearEdges.{edge-below}
+use Rattle.angles.proofs.NearEdges.{edge-below}
 use Rattle.headers.proofs.FirstFour.{level-below}
 use Rattle.columns.specs.Column.{columnOf, heightsFrom}
 use Rattle.columns.proofs.PostsRead.{length-heights, heights-allowed}

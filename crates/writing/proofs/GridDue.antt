@@ -4,11 +4,11 @@ use mathlib.Core.Path.{_≡_, ap, _∙_}
 use mathlib.Core.Bool.{true}
 use Rattle.layout.specs.declared.Grid.{Grid}
 use Rattle.layout.proofs.Ranges.{Ranged, ranged}
-use Rattle.headers.specs.Due.{edgeOf}
+use Rattle.angles.specs.Angles.{edgeOf}
 use Rattle.describing.specs.Items.{inRange}
 use Rattle.describing.specs.Written.{dueFor, factsFor}
 use Rattle.describing.specs.declared.Description.{Description}
-use Rattle.headers.proofs.NearEdges.{edge-below}
+use Rattle.angles.proofs.NearEdges.{edge-below}
 use Rattle.describing.proofs.RangedItems.{ranged-items}
 
 pub due-ranged : (d : Description) → inRange d ≡ true → (g : Grid) → g ≡ factsFor d .grid → Ranged g

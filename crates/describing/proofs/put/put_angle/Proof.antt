@@ -2,7 +2,7 @@
 use Rattle.describing.proofs.Puts.{put-three}
 use Rattle.describing.proofs.put.put_angle.Statement.{statement}
 use Rattle.describing.proofs.put.put_angle.Tie as tie
-use Rattle.headers.specs.Angles.{degreesOf, letterOf}
+use Rattle.angles.specs.Angles.{degreesOf, letterOf}
 use Rattle.describing.specs.Written.{angleText}
 use Rattle.octets.proofs.DigitLaws.{length-digits}
 use Rattle.octets.specs.Digits.{digitsOf}

@@ -1,6 +1,5 @@
 -- `put_areas`: the areas that are left give what all give.
-use Prim.Native.Nat.{_-_, _≤_}
-use Prim.Native.Nat.{ℕ, _+_}
+use Prim.Native.Nat.{ℕ, _+_, _-_, _≤_}
 use Rattle.describing.proofs.TableTurns.{area-fits, areas-on, areas-done}
 use Rattle.describing.proofs.write.put_areas.Statement.{statement}
 use Rattle.describing.proofs.write.put_areas.Tie as tie

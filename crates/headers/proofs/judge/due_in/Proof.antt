@@ -1,10 +1,10 @@
 -- `due_in`: level and near edge are ones that there are, and what is due is what was read.
 use Rattle.headers.proofs.judge.due_in.Statement.{statement}
 use Rattle.headers.proofs.judge.due_in.Tie as tie
-use Rattle.headers.specs.Angles.{northward}
+use Rattle.angles.specs.Angles.{northward}
 use Rattle.headers.specs.Due.{originAt, dueIn}
 use Rattle.headers.proofs.FirstFour.{level-below}
-use Rattle.headers.proofs.NearEdges.{edge-below}
+use Rattle.angles.proofs.NearEdges.{edge-below}
 use borrow.Author.Needs.{needs}
 
 sub-origin : tie.Need-sub-origin

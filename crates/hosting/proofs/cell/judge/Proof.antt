@@ -1,10 +1,10 @@
 -- `judge` of a cell: the lowest bad item, then what was given, under the description that the items say.
 use Rattle.hosting.proofs.BytesExactly.{found-under}
-use Rattle.hosting.proofs.ItemNumbers.{in-range}
+use Rattle.numbering.proofs.ItemNumbers.{in-range}
 use Rattle.hosting.proofs.cell.judge.Statement.{statement}
 use Rattle.hosting.proofs.cell.judge.Tie as tie
 use Rattle.hosting.specs.Cell.{judgedBytes}
-use Rattle.hosting.specs.Items.{badNumber}
+use Rattle.numbering.specs.Items.{badNumber}
 use Rattle.writing.proofs.ItemExactly.{found-bad}
 use borrow.Author.Needs.{needs}
 use mathlib.Core.Path.{_≡_, sym, _∙_}

@@ -5,11 +5,11 @@ use Rattle.answers.specs.declared.Outcome.the-variants.{Done}
 use Rattle.describing.specs.declared.Description.{Description}
 use Rattle.headers.specs.declared.Facts.{Facts}
 use Rattle.hosting.proofs.BytesExactly.{Ready, ready}
-use Rattle.hosting.proofs.ItemNumbers.{in-range}
+use Rattle.numbering.proofs.ItemNumbers.{in-range}
 use Rattle.hosting.proofs.cell.write.Statement.{statement}
 use Rattle.hosting.proofs.cell.write.Tie as tie
 use Rattle.hosting.specs.Cell.{judgedBytes, bytesTold, bytesOutput}
-use Rattle.hosting.specs.Items.{descriptionOf}
+use Rattle.numbering.specs.Items.{descriptionOf}
 use Rattle.hosting.specs.Words.{heightsIn}
 use Rattle.writing.specs.Cell.{cellOf}
 use Rattle.writing.specs.Given.{outputAfter}

@@ -1,0 +1,20 @@
+-- `near_edge`: north of the equator, or south of it.
+use Rattle.angles.proofs.near_edge.Statement.{statement}
+use Rattle.angles.proofs.near_edge.Tie as tie
+use Rattle.angles.specs.Angles.{edgeOf}
+use borrow.Author.Needs.{needs}
+use borrow.Author.Tests.{le-leb, lt-leb}
+
+sub-result : tie.Need-sub-result
+sub-result c = search needs
+
+returns : tie.Need-returns
+unfolding edgeOf
+returns c = rw (le-leb _ _ (c .if1 .taken))
+
+returns-2 : tie.Need-returns-2
+unfolding edgeOf
+returns-2 c = rw (lt-leb _ _ (c .if1 .left))
+
+pub near-edge-spec : {M : Type 1} → statement M
+near-edge-spec = tie.close (tie.spec sub-result returns returns-2)

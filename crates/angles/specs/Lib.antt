@@ -1,0 +1,2 @@
+-- Whole-degree angles, as headers write them.
+pub mod Angles

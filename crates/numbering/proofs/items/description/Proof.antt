@@ -1,0 +1,91 @@
+-- `description`: each item is in its range, and is what the definition makes of it.
+use Rattle.headers.specs.Rules.{isLetter, isVersion}
+use Rattle.numbering.proofs.NumberRanges.{from-zero, letters, versions, passes-byte}
+use Rattle.numbering.proofs.RangedNumbers.{RangedNumbers, ranged-numbers}
+use Rattle.numbering.proofs.items.description.Statement.{statement}
+use Rattle.numbering.proofs.items.description.Tie as tie
+use Rattle.numbering.specs.Items.{item, descriptionOf}
+use borrow.Author.Needs.{needs}
+use native.Mathlib.Omega.{arith}
+
+within : (s : tie.Start) → RangedNumbers (s .args .items .now)
+within s = ranged-numbers (s .args .items .now) (s .pre)
+
+count-requires : tie.Need-count-requires
+count-requires c κs = (omega arith, from-zero 0 2 (item (c .args .items .now) 0) (within c .level))
+
+angle-requires : tie.Need-angle-requires
+angle-requires c κs = (omega arith, ((omega arith, omega arith), within (c .before) .latitude))
+
+angle-requires-2 : tie.Need-angle-requires-2
+angle-requires-2 c κs = (omega arith, ((omega arith, omega arith), within (c .before .before) .longitude))
+
+letter-requires : tie.Need-letter-requires
+letter-requires c κs =
+    let s = c .before .before .before in
+    (omega arith, passes-byte isLetter letters (item (s .args .items .now) 3) (within s .security))
+
+count-requires-2 : tie.Need-count-requires-2
+count-requires-2 c κs =
+    let s = c .before .before .before .before in
+    (omega arith, from-zero 1 99 (item (s .args .items .now) 4) (within s .edition))
+
+letter-requires-2 : tie.Need-letter-requires-2
+letter-requires-2 c κs =
+    let s = c .before .before .before .before .before in
+    (omega arith, passes-byte isVersion versions (item (s .args .items .now) 5) (within s .version))
+
+datum-requires : tie.Need-datum-requires
+datum-requires c κs = search needs
+
+accuracy-requires : tie.Need-accuracy-requires
+accuracy-requires c κs = let s = c .before .before .before .before .before .before .before in (omega arith, within s .accuracy7)
+
+accuracies-requires : tie.Need-accuracies-requires
+accuracies-requires c κs =
+    let s = c .before .before .before .before .before .before .before .before in
+    (omega arith, (within s .accuracy8, within s .accuracy9))
+
+accuracies-requires-2 : tie.Need-accuracies-requires-2
+accuracies-requires-2 c κs =
+    let s = c .before .before .before .before .before .before .before .before .before in
+    (omega arith, (within s .accuracy10, within s .accuracy11))
+
+count-requires-3 : tie.Need-count-requires-3
+count-requires-3 c κs =
+    let s = c .before .before .before .before .before .before .before .before .before .before in
+    (omega arith, from-zero 0 99 (item (s .args .items .now) 12) (within s .partial))
+
+returns : tie.Need-returns
+unfolding descriptionOf
+returns c =
+    rw (
+      c .before .before .before .before .before .before .before .before .before .before .count .ensures,
+      c .before .before .before .before .before .before .before .before .before .angle .ensures,
+      c .before .before .before .before .before .before .before .before .angle2 .ensures,
+      c .before .before .before .before .before .before .before .letter .ensures,
+      c .before .before .before .before .before .before .count2 .ensures,
+      c .before .before .before .before .before .letter2 .ensures,
+      c .before .before .before .before .datum .ensures,
+      c .before .before .before .accuracy .ensures,
+      c .before .before .accuracies .ensures,
+      c .before .accuracies2 .ensures,
+      c .count3 .ensures,
+    )
+
+pub description-spec : {M : Type 1} → statement M
+description-spec =
+    tie.close
+    (tie.spec
+    count-requires
+    angle-requires
+    angle-requires-2
+    letter-requires
+    count-requires-2
+    letter-requires-2
+    datum-requires
+    accuracy-requires
+    accuracies-requires
+    accuracies-requires-2
+    count-requires-3
+    returns)

@@ -1,0 +1,2 @@
+-- What the items of a description are as numbers.
+pub mod Items
