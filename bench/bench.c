@@ -19,11 +19,7 @@ enum { PICKS = 3601, SETS = 3, LAPS = 40 };
 
 /* plain.c once more, by another compiler */
 #ifdef WITH_SECOND
-uint64_t second_intake(const uint8_t *cell, size_t length);
-uint64_t second_post(const uint8_t *cell, size_t length, uint64_t column, uint64_t post);
-uint64_t second_edit(uint8_t *cell, size_t length, uint64_t column, uint64_t post, int64_t height);
-uint64_t second_write(uint8_t *out, size_t room, const int64_t *items, const uint8_t *grid, size_t bytes);
-const char *second_compiler(void);
+PLAIN_CALLS(second);
 #endif
 
 static const struct calls sets[] = {
