@@ -7,6 +7,3 @@ pub mod ColumnBytes
 pub mod PostsRead
 pub mod Afresh
 pub mod WrittenGood
-pub mod SumStored
-pub mod StoredBytes
-pub mod StoredWritten

@@ -1,4 +1,3 @@
 -- What a column is, and how one is judged.
 pub mod Column
 pub mod Judged
-pub mod Stored

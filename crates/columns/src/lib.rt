@@ -4,7 +4,6 @@ ghost use Prim.Native.Nat.{_+_, _*_, _^_, _<_, _≤_};
 ghost use lib.ListN.{length};
 ghost use Rattle.columns.specs.Judged.{headOf, judgedColumn};
 
-pub mod store;
 pub mod write;
 
 use answers::Refusal;

@@ -19,7 +19,7 @@ use Rattle.layout.specs.declared.Laid.{Laid}
 use Rattle.layout.specs.declared.Laid.the-variants.{Out, NoLevel, NoZone}
 use Rattle.layout.proofs.Ranges.{ranged, laid-out}
 use Rattle.describing.specs.Described.{describedBy, described}
-use Rattle.describing.specs.Written.{factsFor}
+use Rattle.describing.specs.Facts.{factsFor}
 use Rattle.writing.specs.Cell.{postsDue}
 use Rattle.writing.proofs.GridDue.{due-ranged}
 use Rattle.writing.proofs.Joined.{parts-small}
@@ -27,7 +27,7 @@ use Rattle.writing.proofs.ItemExactly.{item, then-rest}
 use Rattle.numbering.specs.Items.{numberTests, descriptionOf}
 use Rattle.hosting.specs.Cell.{judgedBytes, bytesTold}
 use Rattle.hosting.specs.Column.{columnBytesTold}
-use Rattle.hosting.proofs.GivenBytes.{BytesRow, differ, as-heights}
+use Rattle.wording.proofs.GivenBytes.{BytesRow, differ, as-heights}
 use Rattle.hosting.proofs.BytesExactly as cell
 use Rattle.hosting.proofs.ColumnBytesExactly as column
 use Rattle.numbering.proofs.ItemNumbers.{number-exactly, in-range}

@@ -12,15 +12,15 @@ use Rattle.answers.specs.declared.Outcome.{Outcome}
 use Rattle.answers.specs.declared.Outcome.the-variants.{Done}
 use Rattle.packing.specs.Packed.{packed}
 use Rattle.describing.specs.Described.{described}
-use Rattle.describing.specs.Written.{factsFor}
+use Rattle.describing.specs.Facts.{factsFor}
 use Rattle.describing.specs.declared.Described.{Described}
 use Rattle.reading.specs.Intake.{taken}
-use Rattle.reading.specs.Lookup.{lookedUp}
+use Rattle.reaching.specs.Lookup.{lookedUp}
 use Rattle.writing.specs.Cell.{cellOf}
-use Rattle.writing.specs.Given.{outputAfter}
+use Rattle.streaming.specs.Given.{outputAfter}
 use Rattle.writing.specs.Grid.{heightAt, saidOf}
 use Rattle.writing.proofs.Restores.{restored-description, restored-accepted, restored-post}
-use Rattle.hosting.specs.Words.{heightsIn}
+use Rattle.wording.specs.Words.{heightsIn}
 use Rattle.numbering.specs.Items.{descriptionOf}
 use Rattle.hosting.specs.Cell.{judgedBytes, bytesTold, bytesOutput}
 use Rattle.hosting.proofs.BytesExactly.{Ready, ready}

@@ -34,18 +34,18 @@ use Rattle.columns.specs.declared.Judged.the-variants as columns
 use Rattle.columns.specs.Column.{wordIn}
 use Rattle.columns.proofs.Damage.{judged-in}
 use Rattle.reading.specs.Cell.{startOf, columnAt}
-use Rattle.reading.specs.Lookup.{postReads, readingOf, lookedUp}
-use Rattle.reading.specs.Reach.{reached}
-use Rattle.reading.specs.declared.reach.Reached.{Reached}
-use Rattle.reading.specs.declared.reach.Reached.the-variants as reach
-use Rattle.reading.proofs.ReachedExactly as reading
+use Rattle.reaching.specs.Lookup.{postReads, readingOf, lookedUp}
+use Rattle.reaching.specs.Reach.{reached}
+use Rattle.reaching.specs.declared.reach.Reached.{Reached}
+use Rattle.reaching.specs.declared.reach.Reached.the-variants as reach
+use Rattle.reaching.proofs.ReachedExactly as reading
 use Rattle.locating.specs.Position.{nearestColumn, nearestPost, saidAt, readAt, located}
 use Rattle.locating.proofs.PositionExactly as position
-use Rattle.writing.specs.Column.{columnTold}
+use Rattle.streaming.specs.Column.{columnTold}
 use Rattle.writing.proofs.Joined.{part-within}
-use Rattle.writing.proofs.GivenExactly.{GivenRow, differs, not-held, no-room, fine}
-use Rattle.writing.proofs.NumberExactly.{NumberRow, level-past, number-past, then-rest}
-use Rattle.writing.proofs.ColumnExactly as column
+use Rattle.streaming.proofs.GivenExactly.{GivenRow, differs, not-held, no-room, fine}
+use Rattle.streaming.proofs.NumberExactly.{NumberRow, level-past, number-past, then-rest}
+use Rattle.streaming.proofs.ColumnExactly as column
 use Rattle.editing.specs.Edit.{judgedEdit, editTold}
 use Rattle.editing.proofs.EditExactly as editing
 use Rattle.reading.specs.Intake.{orRest, judgeNext, ended, columnsFrom, takenBy, taken}

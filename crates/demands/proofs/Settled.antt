@@ -21,10 +21,10 @@ use Rattle.reading.proofs.intake.intake.Reads as taking
 use Rattle.reading.proofs.intake.intake.Kinds as taking-kinds
 use Rattle.reading.proofs.intake.end.Reads as ending
 use Rattle.reading.proofs.intake.end.Kinds as ending-kinds
-use Rattle.reading.proofs.reach.reach.Reads as reaching
-use Rattle.reading.proofs.reach.reach.Kinds as reaching-kinds
-use Rattle.reading.proofs.lookup.look_up.Reads as looking
-use Rattle.reading.proofs.lookup.look_up.Kinds as looking-kinds
+use Rattle.reaching.proofs.reach.reach.Reads as reaching
+use Rattle.reaching.proofs.reach.reach.Kinds as reaching-kinds
+use Rattle.reaching.proofs.lookup.look_up.Reads as looking
+use Rattle.reaching.proofs.lookup.look_up.Kinds as looking-kinds
 use Rattle.locating.proofs.position.locate.Reads as locating
 use Rattle.locating.proofs.position.locate.Kinds as locating-kinds
 use Rattle.stepping.specs.Steps.{after}
@@ -36,8 +36,8 @@ use Rattle.stepping.proofs.steps.Steps.wanted.Reads as wanted
 use Rattle.stepping.proofs.steps.Steps.wanted.Kinds as wanted-kinds
 use Rattle.writing.proofs.cell.write.Reads as write-cell
 use Rattle.writing.proofs.cell.write.Kinds as write-cell-kinds
-use Rattle.writing.proofs.column.write.Reads as write-column
-use Rattle.writing.proofs.column.write.Kinds as write-column-kinds
+use Rattle.streaming.proofs.column.write.Reads as write-column
+use Rattle.streaming.proofs.column.write.Kinds as write-column-kinds
 use Rattle.hosting.proofs.cell.write.Reads as write-bytes
 use Rattle.hosting.proofs.cell.write.Kinds as write-bytes-kinds
 use Rattle.hosting.proofs.column.write.Reads as write-column-bytes

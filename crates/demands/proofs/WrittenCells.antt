@@ -18,14 +18,14 @@ use Rattle.describing.proofs.describe.describe.Reads as describe
 use Rattle.describing.proofs.describe.describe.Kinds as describe-kinds
 use Rattle.reading.proofs.intake.intake.Reads as intake
 use Rattle.reading.proofs.intake.intake.Kinds as intake-kinds
-use Rattle.reading.proofs.lookup.look_up.Reads as look-up
-use Rattle.reading.proofs.lookup.look_up.Kinds as look-up-kinds
+use Rattle.reaching.proofs.lookup.look_up.Reads as look-up
+use Rattle.reaching.proofs.lookup.look_up.Kinds as look-up-kinds
 use Rattle.reading.specs.Intake.{taken}
-use Rattle.reading.specs.Lookup.{lookedUp}
+use Rattle.reaching.specs.Lookup.{lookedUp}
 use Rattle.describing.specs.Described.{described}
-use Rattle.describing.specs.Written.{factsFor}
+use Rattle.describing.specs.Facts.{factsFor}
 use Rattle.writing.specs.Cell.{judgedCell, cellOf, cellTold, cellOutput}
-use Rattle.writing.specs.Given.{outputAfter}
+use Rattle.streaming.specs.Given.{outputAfter}
 use Rattle.writing.specs.Grid.{heightAt, saidOf}
 use Rattle.writing.proofs.CellExactly.{Ready, ready}
 use Rattle.writing.proofs.Restores.{restored-description, restored-accepted, restored-post}

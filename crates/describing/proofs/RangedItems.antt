@@ -13,9 +13,9 @@ use Rattle.octets.specs.Choice.{pick}
 use Rattle.octets.specs.Tests.{every}
 use Rattle.octets.proofs.TestLaws.{each-true}
 use Rattle.octets.proofs.ChoiceLaws.{both-true}
-use Rattle.headers.specs.Rules.{isLetter, isVersion}
+use Rattle.rules.specs.Rules.{isLetter, isVersion}
 use Rattle.describing.specs.Items.{accuracyRanged, itemTests, firstFailed, badItem, inRange}
-use Rattle.describing.specs.Written.{accuracyFor}
+use Rattle.describing.specs.Facts.{accuracyFor}
 use Rattle.describing.specs.declared.Description.{Description}
 use Rattle.fields.specs.declared.Whose.{Whose}
 use Rattle.fields.specs.declared.Whose.the-variants as whose

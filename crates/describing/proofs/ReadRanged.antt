@@ -18,7 +18,7 @@ use Rattle.headers.specs.declared.Judged.{Judged}
 use Rattle.headers.specs.declared.Judged.the-variants.{Good, Refused}
 use Rattle.angles.specs.Angles.{northward, eastward}
 use Rattle.headers.specs.Due.{levelAt, originAt, dueIn}
-use Rattle.headers.specs.Rules.{isLetter, isVersion, holds}
+use Rattle.rules.specs.Rules.{isLetter, isVersion, holds}
 use Rattle.headers.proofs.Exactly.{good-follows, follows-good}
 use Rattle.headers.proofs.FirstFour.{good-facts, level-below}
 use Rattle.describing.specs.Items.{accuracyRanged, itemTests, inRange}

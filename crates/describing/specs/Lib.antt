@@ -1,4 +1,4 @@
--- What headers say, the ranges of what they say, and what it is written as.
+-- What headers say, the ranges of what they say, and what it makes due.
 pub mod Described
 pub mod Items
-pub mod Written
+pub mod Facts

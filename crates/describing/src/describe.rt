@@ -33,7 +33,7 @@ fn datum_at(s: &[u8], at: usize) -> Datum
     requires { ⌜ at + 3 ≤ length (now s) ⌝ }
     ensures { λ r. ⌜ r ≡ datumAt (now (s .entry)) at ⌝ }
 {
-    if stands(s, at, &headers::texts::MSL) {
+    if stands(s, at, &rules::texts::MSL) {
         Datum::Msl
     } else {
         Datum::E96

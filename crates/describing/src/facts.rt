@@ -2,7 +2,7 @@
 ghost use mathlib.Core.Path.{_≡_};
 ghost use mathlib.Core.Bool.{true};
 ghost use Rattle.describing.specs.Items.{inRange};
-ghost use Rattle.describing.specs.Written.{factsFor};
+ghost use Rattle.describing.specs.Facts.{factsFor};
 use crate::Description;
 use angles::near_edge;
 use headers::Facts;

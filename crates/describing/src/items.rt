@@ -1,13 +1,13 @@
 // The items of a description, each in its range.
 ghost use mathlib.Core.Path.{_≡_};
 ghost use Rattle.describing.specs.Items.{accuracyRanged, itemTests, firstFailed, badItem};
-ghost use Rattle.describing.specs.Written.{accuracyFor};
+ghost use Rattle.describing.specs.Facts.{accuracyFor};
 use crate::Accuracy;
 use crate::Description;
 use fields::Whose;
-use headers::letters::is_letter;
-use headers::letters::is_version;
 use octets::choices::both;
+use rules::letters::is_letter;
+use rules::letters::is_version;
 
 // The accuracy of this one.
 pub fn accuracy_for(whose: Whose, d: Description) -> Accuracy

@@ -1,11 +1,9 @@
-// The description of a cell: the thirteen items that its headers say, read from them, ranged, and written as headers.
+// The description of a cell: the thirteen items that its headers say, read from them and ranged.
 use answers::Refusal;
 
 pub mod describe;
 pub mod facts;
 pub mod items;
-mod put;
-pub mod write;
 
 // An accuracy in metres, or not available.
 pub enum Accuracy {
@@ -24,7 +22,7 @@ pub enum Datum {
     E96,
 }
 
-// The thirteen items of a cell: what its headers say beyond what is fixed. Angles are counted as in `headers`.
+// The thirteen items of a cell: what its headers say beyond what is fixed. Angles are counted as in `rules`.
 pub struct Description {
     pub level: usize,
     pub latitude: usize,

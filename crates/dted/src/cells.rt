@@ -2,7 +2,7 @@
 ghost use mathlib.Core.Path.{_≡_};
 ghost use Rattle.packing.specs.Packed.{packed};
 ghost use Rattle.reading.specs.Intake.{taken};
-ghost use Rattle.reading.specs.Lookup.{lookedUp};
+ghost use Rattle.reaching.specs.Lookup.{lookedUp};
 ghost use Rattle.locating.specs.Position.{located};
 ghost use Rattle.editing.specs.Edit.{editTold, edited};
 
@@ -17,7 +17,7 @@ pub extern "C" fn dted_intake(cell: &[u8]) -> u64
 pub extern "C" fn dted_post(cell: &[u8], column: u64, post: u64) -> u64
     ensures { λ r. ⌜ r ≡ packed (lookedUp (now (cell .entry)) column post) ⌝ }
 {
-    packing::reading(reading::lookup::look_up(cell, column as usize, post as usize))
+    packing::reading(reaching::lookup::look_up(cell, column as usize, post as usize))
 }
 
 #[no_mangle]

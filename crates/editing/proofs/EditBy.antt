@@ -8,9 +8,9 @@ use Rattle.answers.specs.declared.Refusal.{Refusal}
 use Rattle.answers.specs.declared.Refusal.the-variants.{Height}
 use Rattle.answers.specs.declared.Outcome.the-variants as outcome
 use Rattle.posts.specs.Heights.{heightAllowed}
-use Rattle.reading.specs.Reach.{reached}
-use Rattle.reading.specs.declared.reach.Spot.{Spot}
-use Rattle.reading.specs.declared.reach.Reached.the-variants.{At, Refused}
+use Rattle.reaching.specs.Reach.{reached}
+use Rattle.reaching.specs.declared.reach.Spot.{Spot}
+use Rattle.reaching.specs.declared.reach.Reached.the-variants.{At, Refused}
 use Rattle.editing.specs.Edit.{judgedEdit, storedIn, edited}
 
 module _ (s : List ℕ) (c p : ℕ) (z : ℤ) where

@@ -15,10 +15,10 @@ use Rattle.headers.specs.Judged.{factsIn, voidsAllowed}
 use Rattle.posts.specs.Heights.{heightAllowed}
 use Rattle.columns.specs.Column.{GoodColumn}
 use Rattle.reading.specs.Cell.{columnAt}
-use Rattle.reading.specs.Reach.{spotIn, reached}
-use Rattle.reading.specs.declared.reach.Reached.{Reached}
-use Rattle.reading.specs.declared.reach.Reached.the-variants as reach
-use Rattle.reading.proofs.ReachedExactly as reading
+use Rattle.reaching.specs.Reach.{spotIn, reached}
+use Rattle.reaching.specs.declared.reach.Reached.{Reached}
+use Rattle.reaching.specs.declared.reach.Reached.the-variants as reach
+use Rattle.reaching.proofs.ReachedExactly as reading
 use Rattle.editing.specs.Edit.{judgedEdit, storedIn, edited}
 use Rattle.editing.proofs.EditBy.{not-reached, height-refused, height-stored}
 

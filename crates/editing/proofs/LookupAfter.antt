@@ -18,11 +18,11 @@ use Rattle.posts.proofs.RoundTrip.{word-back, form-allowed}
 use Rattle.headers.specs.Judged.{factsIn, voidsAllowed}
 use Rattle.columns.specs.Column.{wordIn}
 use Rattle.reading.specs.Cell.{columnAt, Cell}
-use Rattle.reading.specs.Lookup.{postReads, readingOf, lookedUp}
-use Rattle.reading.specs.declared.reach.Reached.{Reached}
-use Rattle.reading.specs.declared.reach.Reached.the-variants as reach
-use Rattle.reading.proofs.LookupLaws.{post-found}
-use Rattle.reading.proofs.ReachedExactly.{off, given}
+use Rattle.reaching.specs.Lookup.{postReads, readingOf, lookedUp}
+use Rattle.reaching.specs.declared.reach.Reached.{Reached}
+use Rattle.reaching.specs.declared.reach.Reached.the-variants as reach
+use Rattle.reaching.proofs.LookupLaws.{post-found}
+use Rattle.reaching.proofs.ReachedExactly.{off, given}
 use Rattle.writing.specs.Grid.{heightAt, saidOf, gridIn}
 use Rattle.writing.proofs.Joined.{part-within}
 use Rattle.writing.proofs.OwnGrid.{length-grid, own-post}

@@ -23,14 +23,14 @@ use Rattle.headers.specs.declared.Facts.{Facts}
 use Rattle.headers.proofs.Exactly.{good-follows, follows-good}
 use Rattle.headers.proofs.SameHeaders.{same-headers}
 use Rattle.columns.specs.Column.{heightsFrom, GoodColumn}
-use Rattle.columns.specs.Stored.{stored}
+use Rattle.storing.specs.Stored.{stored}
 use Rattle.columns.proofs.ColumnBytes.{column-bytes}
-use Rattle.columns.proofs.StoredWritten.{stored-written, stored-good, stored-heights}
+use Rattle.storing.proofs.StoredWritten.{stored-written, stored-good, stored-heights}
 use Rattle.reading.specs.Cell.{startOf, columnAt, Cell}
-use Rattle.reading.specs.Reach.{spotIn, reached}
-use Rattle.reading.specs.declared.reach.Reached.the-variants as reach
+use Rattle.reaching.specs.Reach.{spotIn, reached}
+use Rattle.reaching.specs.declared.reach.Reached.the-variants as reach
 use Rattle.reading.proofs.CellExactly.{column-whole}
-use Rattle.reading.proofs.ReachedExactly.{good, off, given}
+use Rattle.reaching.proofs.ReachedExactly.{good, off, given}
 use Rattle.writing.specs.Grid.{heightsOf, afresh, postsIn, gridIn}
 use Rattle.writing.proofs.CellAfresh.{part-bytes, cell-afresh}
 use Rattle.writing.proofs.Joined.{join-cut}

@@ -13,11 +13,11 @@ use Rattle.headers.specs.Judged.{factsIn}
 use Rattle.layout.specs.Levels.{columnBytes}
 use Rattle.posts.specs.Heights.{wordOf}
 use Rattle.columns.specs.Column.{wordAt, sumAt}
-use Rattle.columns.specs.Stored.{stored}
-use Rattle.columns.proofs.StoredBytes.{NoneOf, paste-leaves, length-stored, stored-leaves}
+use Rattle.storing.specs.Stored.{stored}
+use Rattle.storing.proofs.StoredBytes.{NoneOf, paste-leaves, length-stored, stored-leaves}
 use Rattle.reading.specs.Cell.{startOf}
-use Rattle.reading.specs.Reach.{spotIn}
-use Rattle.reading.specs.declared.reach.Spot.{Spot}
+use Rattle.reaching.specs.Reach.{spotIn}
+use Rattle.reaching.specs.declared.reach.Spot.{Spot}
 use Rattle.answers.specs.declared.Outcome.{Outcome}
 use Rattle.answers.specs.declared.Outcome.the-variants.{Done, Refused}
 use Rattle.editing.specs.Edit.{judgedEdit, storedIn, edited}

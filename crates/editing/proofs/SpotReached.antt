@@ -16,14 +16,14 @@ use Rattle.headers.proofs.Exactly.{follows-good}
 use Rattle.headers.proofs.FirstFour.{good-facts}
 use Rattle.posts.specs.Heights.{wordOf}
 use Rattle.columns.specs.Column.{sumAt, GoodColumn}
-use Rattle.columns.specs.Stored.{stored}
-use Rattle.columns.proofs.StoredBytes.{length-stored}
+use Rattle.storing.specs.Stored.{stored}
+use Rattle.storing.proofs.StoredBytes.{length-stored}
 use Rattle.reading.specs.Cell.{startOf, columnAt}
-use Rattle.reading.specs.Reach.{spotIn, reached}
-use Rattle.reading.specs.declared.reach.Spot.{Spot}
-use Rattle.reading.specs.declared.reach.Reached.{Reached}
-use Rattle.reading.specs.declared.reach.Reached.the-variants.{At}
-use Rattle.reading.proofs.ReachedExactly.{OnGrid, endIn, Row, bad-headers, off, cut, column, good, row}
+use Rattle.reaching.specs.Reach.{spotIn, reached}
+use Rattle.reaching.specs.declared.reach.Spot.{Spot}
+use Rattle.reaching.specs.declared.reach.Reached.{Reached}
+use Rattle.reaching.specs.declared.reach.Reached.the-variants.{At}
+use Rattle.reaching.proofs.ReachedExactly.{OnGrid, endIn, Row, bad-headers, off, cut, column, good, row}
 use Rattle.reading.proofs.Turns.{start-small}
 use Rattle.editing.specs.Edit.{storedIn}
 

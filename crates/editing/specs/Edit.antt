@@ -11,11 +11,11 @@ use Rattle.answers.specs.declared.Outcome.{Outcome}
 use Rattle.answers.specs.declared.Outcome.the-variants.{Done, Refused}
 use Rattle.layout.specs.Levels.{columnBytes}
 use Rattle.posts.specs.Heights.{heightAllowed, wordOf}
-use Rattle.columns.specs.Stored.{stored}
-use Rattle.reading.specs.Reach.{reached}
-use Rattle.reading.specs.declared.reach.Spot.{Spot}
-use Rattle.reading.specs.declared.reach.Reached.{Reached}
-use Rattle.reading.specs.declared.reach.Reached.the-variants as reach
+use Rattle.storing.specs.Stored.{stored}
+use Rattle.reaching.specs.Reach.{reached}
+use Rattle.reaching.specs.declared.reach.Spot.{Spot}
+use Rattle.reaching.specs.declared.reach.Reached.{Reached}
+use Rattle.reaching.specs.declared.reach.Reached.the-variants as reach
 
 -- N11: a reached post may be given the height, or not
 abbrev pub judgedAt : Reached → ℤ → Outcome

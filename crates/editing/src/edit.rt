@@ -4,11 +4,11 @@ ghost use Rattle.answers.specs.Told as told;
 ghost use Rattle.editing.specs.Edit.{editTold, edited};
 use answers::Outcome;
 use answers::Refusal;
-use columns::store::store;
 use posts::heights::is_allowed;
 use posts::heights::word_of;
-use reading::reach::Reached;
-use reading::reach::reach;
+use reaching::reach::Reached;
+use reaching::reach::reach;
+use storing::store::store;
 
 // Post `post` of column `column` made this height, -32767 for void; any bytes and any numbers.
 pub fn edit(cell: &mut [u8], column: usize, post: usize, height: i64) -> Outcome

@@ -1,1 +1,2 @@
--- The proof of the one function that reads the table.
+-- The proofs of the functions that read the table.
+mod Records

@@ -1,6 +1,6 @@
-// The fields of the headers: one table of them in the order of judging, by which headers are judged and written.
+// The fields of the headers: a table to each record, in the order of judging, by which headers are judged and written.
 ghost use mathlib.Core.Path.{_≡_};
-ghost use Prim.Native.Nat.{_<_};
+ghost use Prim.Native.Nat.{_+_, _<_};
 ghost use Rattle.fields.specs.Table.{fieldAt};
 
 // A fixed text.
@@ -65,8 +65,8 @@ pub struct Field(pub usize, pub usize, pub Kind);
 
 pub const FIELDS: usize = 40;
 
-// Offsets count from 0 in the file: the UHL is at 0, the DSI at 80, the ACC at 728.
-pub const TABLE: [Field; FIELDS] = [
+// The fields of each record in the order of judging. Offsets count from 0 in the file: the UHL is at 0, the DSI at 80, the ACC at 728.
+const UHL: [Field; 10] = [
     Field(0, 4, Kind::Fixed(Text::Uhl1)),
     Field(4, 8, Kind::At(Angle::Longitude)),
     Field(12, 8, Kind::At(Angle::Latitude)),
@@ -77,6 +77,9 @@ pub const TABLE: [Field; FIELDS] = [
     Field(47, 4, Kind::Due(Number::Columns)),
     Field(51, 4, Kind::Due(Number::Posts)),
     Field(55, 1, Kind::Fixed(Text::Zero)),
+];
+
+const DSI: [Field; 24] = [
     Field(80, 3, Kind::Fixed(Text::Dsi)),
     Field(83, 1, Kind::Letter),
     Field(139, 5, Kind::Series),
@@ -101,6 +104,9 @@ pub const TABLE: [Field; FIELDS] = [
     Field(361, 4, Kind::Due(Number::Posts)),
     Field(365, 4, Kind::Due(Number::Columns)),
     Field(369, 2, Kind::Indicator),
+];
+
+const ACC: [Field; 6] = [
     Field(728, 3, Kind::Fixed(Text::Acc)),
     Field(731, 4, Kind::Accurate(Whose::AbsoluteHorizontal)),
     Field(735, 4, Kind::Accurate(Whose::AbsoluteVertical)),
@@ -109,12 +115,40 @@ pub const TABLE: [Field; FIELDS] = [
     Field(783, 2, Kind::Fixed(Text::ZeroZero)),
 ];
 
-// A row of the table. No other function reads the table, which the checker would have to take apart each time.
+// The rows of each record. No other function reads its table, which the checker would have to take apart each time.
+fn uhl(i: usize) -> Field
+    requires { ⌜ i < 10 ⌝ }
+    ensures { λ r. ⌜ r ≡ fieldAt i ⌝ }
+{
+    UHL[i]
+}
+
+fn dsi(i: usize) -> Field
+    requires { ⌜ i < 24 ⌝ }
+    ensures { λ r. ⌜ r ≡ fieldAt (10 + i) ⌝ }
+{
+    DSI[i]
+}
+
+fn acc(i: usize) -> Field
+    requires { ⌜ i < 6 ⌝ }
+    ensures { λ r. ⌜ r ≡ fieldAt (34 + i) ⌝ }
+{
+    ACC[i]
+}
+
+// The field that is judged after i others.
 pub fn row(i: usize) -> Field
     requires { ⌜ i < 40 ⌝ }
     ensures { λ r. ⌜ r ≡ fieldAt i ⌝ }
 {
-    TABLE[i]
+    if i < 10 {
+        return uhl(i);
+    }
+    if i < 34 {
+        return dsi(i - 10);
+    }
+    acc(i - 34)
 }
 
 // An area of zeros among the free bytes: where it stands, and how many there are.

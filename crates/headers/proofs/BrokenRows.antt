@@ -15,7 +15,7 @@ use Rattle.octets.proofs.ScanLaws.{scan-step, scan-done}
 use Rattle.octets.proofs.ChoiceLaws.{by-test, by-order}
 use Rattle.fields.specs.Table.{uhl, fields, fieldAt}
 use Rattle.headers.specs.Judged.{keeps, broken, judgedBy}
-use Rattle.headers.specs.declared.Due.{Due}
+use Rattle.rules.specs.declared.Due.{Due}
 use Rattle.headers.specs.declared.Judged.the-variants.{Refused}
 use Rattle.fields.specs.declared.Kind.the-variants.{Indicator}
 

@@ -15,11 +15,11 @@ use Rattle.layout.specs.Grid.{gridOf}
 use Rattle.layout.proofs.Ranges.{Ranged, ranged}
 use Rattle.angles.specs.Angles.{form, northward, eastward, isAngle, degreesIn, letterIn, isOrigin, angleOf, edgeOf}
 use Rattle.headers.specs.Due.{originAt, levelAt, dueIn}
-use Rattle.headers.specs.Rules.{holds, angleHolds}
+use Rattle.rules.specs.Rules.{holds, angleHolds}
 use Rattle.fields.specs.Table.{fieldAt}
 use Rattle.headers.specs.Judged.{keeps, factsIn, judged, Follows}
 use Rattle.angles.specs.declared.Axis.{Axis}
-use Rattle.headers.specs.declared.Due.{Due}
+use Rattle.rules.specs.declared.Due.{Due}
 use Rattle.headers.specs.declared.Facts.{Facts}
 use Rattle.headers.specs.declared.Judged.the-variants.{Good}
 use Rattle.angles.proofs.NearEdges.{edge-below}

@@ -13,11 +13,11 @@ use Rattle.octets.proofs.PartLaws.{decimal-alike, text-alike, part-alike}
 use Rattle.layout.specs.Grid.{gridOf}
 use Rattle.angles.specs.Angles.{northward, eastward, edgeOf}
 use Rattle.headers.specs.Due.{originAt, levelAt, dueIn}
-use Rattle.headers.specs.Rules.{holds}
+use Rattle.rules.specs.Rules.{holds}
 use Rattle.fields.specs.Table.{bytesIn, fieldAt}
 use Rattle.headers.specs.Judged.{keeps, broken, factsIn, judged}
 use Rattle.angles.specs.declared.Axis.{Axis}
-use Rattle.headers.specs.declared.Due.{Due}
+use Rattle.rules.specs.declared.Due.{Due}
 use Rattle.headers.specs.declared.Judged.the-variants.{Good, Refused}
 use Rattle.headers.proofs.TableRows.{row}
 use Rattle.headers.proofs.BrokenRows.{turn, firstIn, found-same}

@@ -11,9 +11,9 @@ use lib.Seq.{length-take-le}
 use Rattle.octets.specs.Tests.{every}
 use Rattle.octets.proofs.TestLaws.{each, below}
 use Rattle.fields.specs.Table.{bytesIn, fieldAt}
-use Rattle.headers.specs.Rules.{widthOf, holds}
+use Rattle.rules.specs.Rules.{widthOf, holds}
 use Rattle.headers.specs.Judged.{keeps}
-use Rattle.headers.specs.declared.Due.{Due}
+use Rattle.rules.specs.declared.Due.{Due}
 use Rattle.fields.specs.declared.Field.{Field}
 
 pub record Row (f : Field) : Type 0 where

@@ -11,7 +11,7 @@ use Rattle.octets.specs.Choice.{pick}
 use Rattle.headers.specs.Due.{dueIn}
 use Rattle.fields.specs.Table.{fields, fieldAt}
 use Rattle.headers.specs.Judged.{broken, factsIn, judgedBy, judged}
-use Rattle.headers.specs.declared.Due.{Due}
+use Rattle.rules.specs.declared.Due.{Due}
 use Rattle.headers.specs.declared.Judged.the-variants.{Good, Refused}
 use Rattle.headers.proofs.BrokenRows.{turn, firstIn, Found, found, judged-part, found-same}
 use Rattle.headers.proofs.FirstFour.{nothing-due, Fixed, fixed}

@@ -7,7 +7,7 @@ use Rattle.octets.specs.Texts.{ascii, has}
 use Rattle.layout.specs.Grid.{gridOf}
 use Rattle.angles.specs.Angles.{northward, eastward, form, degreesIn, letterIn, angleOf, edgeOf}
 use Rattle.angles.specs.declared.Axis.{Axis}
-use Rattle.headers.specs.declared.Due.{Due}
+use Rattle.rules.specs.declared.Due.{Due}
 
 -- H2, H3: DDDMMSSH at an offset, as an angle counted from 90 S or 180 W
 unfoldable pub originAt : Axis → List ℕ → ℕ → ℕ

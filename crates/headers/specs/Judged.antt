@@ -12,8 +12,8 @@ use Rattle.answers.specs.declared.Refusal.the-variants as because
 use Rattle.layout.specs.Grid.{headerBytes}
 use Rattle.fields.specs.Table.{fields, bytesIn, fieldAt}
 use Rattle.headers.specs.Due.{dueIn}
-use Rattle.headers.specs.Rules.{holds}
-use Rattle.headers.specs.declared.Due.{Due}
+use Rattle.rules.specs.Rules.{holds}
+use Rattle.rules.specs.declared.Due.{Due}
 use Rattle.headers.specs.declared.Facts.{Facts}
 use Rattle.headers.specs.declared.Judged.{Judged}
 use Rattle.headers.specs.declared.Judged.the-variants.{Good, Refused}

@@ -1,4 +1,3 @@
 -- What headers follow, and how they are judged.
 pub mod Due
-pub mod Rules
 pub mod Judged

@@ -8,12 +8,10 @@ ghost use Rattle.fields.specs.Table.{fieldAt};
 ghost use Rattle.angles.specs.Angles.{northward};
 ghost use Rattle.headers.specs.Due.{originAt, dueIn};
 ghost use Rattle.headers.specs.Judged as by;
-use crate::Due;
 use crate::Facts;
 use crate::Judged;
 use crate::readings::level_at;
 use crate::readings::origin;
-use crate::rules::keeps;
 use angles::EASTWARD;
 use angles::NORTHWARD;
 use angles::near_edge;
@@ -25,6 +23,8 @@ use layout::Grid;
 use layout::HEADER_BYTES;
 use layout::Interval;
 use octets::digits::decimal;
+use rules::Due;
+use rules::kinds::keeps;
 
 // Level and origin stand in the first rows, which nothing is due of.
 const FIRST: usize = 4;

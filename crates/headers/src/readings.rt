@@ -27,10 +27,10 @@ pub fn level_at(s: &[u8]) -> usize
     requires { ⌜ 3428 ≤ length (now s) ⌝ }
     ensures { λ r. ⌜ r ≡ levelAt (now (s .entry)) ⌝ }
 {
-    if stands(s, 24, &crate::texts::LEVEL0) {
+    if stands(s, 24, &rules::texts::LEVEL0) {
         return 0;
     }
-    if stands(s, 24, &crate::texts::LEVEL1) {
+    if stands(s, 24, &rules::texts::LEVEL1) {
         return 1;
     }
     2

@@ -10,17 +10,17 @@ use Rattle.answers.specs.Told.{told, act}
 use Rattle.answers.specs.declared.Outcome.{Outcome}
 use Rattle.layout.specs.Levels.{postsOf}
 use Rattle.describing.specs.Items.{inRange}
-use Rattle.describing.specs.Written.{factsFor}
+use Rattle.describing.specs.Facts.{factsFor}
 use Rattle.describing.specs.declared.Description.{Description}
 use Rattle.columns.specs.Column.{columnOf}
-use Rattle.writing.specs.Given.{outputAfter}
+use Rattle.streaming.specs.Given.{outputAfter}
 use Rattle.writing.specs.Cell.{postsDue, cellOf, cellTold, cellOutput}
-use Rattle.writing.specs.Column.{columnTold, columnOutput}
-use Rattle.hosting.specs.Words.{heightsIn, bytesFor}
+use Rattle.streaming.specs.Column.{columnTold, columnOutput}
+use Rattle.wording.specs.Words.{heightsIn, bytesFor}
 use Rattle.numbering.specs.Items.{badNumber, descriptionOf, numbersOf}
 use Rattle.hosting.specs.Cell.{bytesTold, bytesOutput}
 use Rattle.hosting.specs.Column.{columnBytesTold, columnBytesOutput}
-use Rattle.hosting.proofs.HeightBytes.{Words, heights-back, length-bytes-for}
+use Rattle.wording.proofs.HeightBytes.{Words, heights-back, length-bytes-for}
 use Rattle.numbering.proofs.ItemNumbers.{numbers-back, numbers-ranged}
 use Rattle.hosting.proofs.BytesExactly as cell
 use Rattle.hosting.proofs.ColumnBytesExactly as column

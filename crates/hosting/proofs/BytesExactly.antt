@@ -9,18 +9,18 @@ use Rattle.answers.specs.declared.Outcome.{Outcome}
 use Rattle.answers.specs.declared.Outcome.the-variants.{Done}
 use Rattle.headers.specs.Judged.{voidsAllowed}
 use Rattle.headers.specs.declared.Facts.{Facts}
-use Rattle.describing.specs.Written.{factsFor}
+use Rattle.describing.specs.Facts.{factsFor}
 use Rattle.describing.specs.declared.Description.{Description}
 use Rattle.describing.proofs.RangedItems.{item-exactly}
 use Rattle.writing.specs.Cell.{postsDue, judgedCell}
 use Rattle.writing.proofs.ItemExactly.{ItemRow, none-bad}
 use Rattle.writing.proofs.ItemExactly as by-item
 use Rattle.writing.proofs.CellExactly.{items-fine}
-use Rattle.hosting.specs.Words.{heightsIn}
+use Rattle.wording.specs.Words.{heightsIn}
 use Rattle.numbering.specs.Items.{numberTests, badNumber, descriptionOf}
-use Rattle.hosting.specs.Given.{judgedGiven}
+use Rattle.wording.specs.Given.{judgedGiven}
 use Rattle.hosting.specs.Cell.{judgedUnder, judgedBytes}
-use Rattle.hosting.proofs.GivenBytes.{BytesRow, bytes-given, given-bytes, FineBytes, bytes-fine, even-judged}
+use Rattle.wording.proofs.GivenBytes.{BytesRow, bytes-given, given-bytes, FineBytes, bytes-fine, even-judged}
 use Rattle.numbering.proofs.ItemNumbers.{number-exactly, in-range}
 
 module _ (d : Description) (grid : List ℕ) (room : ℕ) where

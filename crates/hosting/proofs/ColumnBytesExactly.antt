@@ -9,14 +9,14 @@ use Rattle.answers.specs.declared.Outcome.the-variants.{Done}
 use Rattle.layout.specs.Levels.{postsOf, columnBytes}
 use Rattle.layout.specs.Grid.{gridOf}
 use Rattle.layout.specs.declared.Grid.{Grid}
-use Rattle.writing.specs.Column.{zoneOneColumns, placed, afterNumber, judgedColumn}
-use Rattle.writing.specs.declared.column.Placed.the-variants.{On}
-use Rattle.writing.proofs.NumberExactly.{NumberRow, placed-on}
-use Rattle.writing.proofs.NumberExactly as by-number
-use Rattle.hosting.specs.Words.{heightsIn}
-use Rattle.hosting.specs.Given.{judgedGiven}
+use Rattle.streaming.specs.Column.{zoneOneColumns, placed, afterNumber, judgedColumn}
+use Rattle.streaming.specs.declared.column.Placed.the-variants.{On}
+use Rattle.streaming.proofs.NumberExactly.{NumberRow, placed-on}
+use Rattle.streaming.proofs.NumberExactly as by-number
+use Rattle.wording.specs.Words.{heightsIn}
+use Rattle.wording.specs.Given.{judgedGiven}
 use Rattle.hosting.specs.Column.{judgedColumnBytes}
-use Rattle.hosting.proofs.GivenBytes.{BytesRow, bytes-given, given-bytes, FineBytes, bytes-fine, even-judged}
+use Rattle.wording.proofs.GivenBytes.{BytesRow, bytes-given, given-bytes, FineBytes, bytes-fine, even-judged}
 
 module _ (level number : ℕ) (posts : List ℕ) (room : ℕ) where
   -- 9 for the level, 8 for the number, then 10, 11, 12, or done

@@ -1,6 +1,4 @@
--- The laws of a C host's heights, and of its writers.
-pub mod HeightBytes
-pub mod GivenBytes
+-- The laws of a C host's writers.
 pub mod BytesExactly
 pub mod ColumnBytesExactly
 pub mod AsHeights

@@ -6,13 +6,13 @@ use lib.ListN.{length}
 use Rattle.answers.specs.Told.{Told, told, act}
 use Rattle.answers.specs.declared.Outcome.{Outcome}
 use Rattle.headers.specs.Judged.{voidsAllowed}
-use Rattle.describing.specs.Written.{factsFor}
+use Rattle.describing.specs.Facts.{factsFor}
 use Rattle.describing.specs.declared.Description.{Description}
-use Rattle.writing.specs.Given.{outputAfter}
+use Rattle.streaming.specs.Given.{outputAfter}
 use Rattle.writing.specs.Cell.{postsDue, afterItem, cellOf}
-use Rattle.hosting.specs.Words.{heightsIn}
+use Rattle.wording.specs.Words.{heightsIn}
 use Rattle.numbering.specs.Items.{badNumber, descriptionOf}
-use Rattle.hosting.specs.Given.{judgedGiven}
+use Rattle.wording.specs.Given.{judgedGiven}
 
 -- N10, N11, N12: under a description
 unfoldable pub judgedUnder : Description → List ℕ → ℕ → Outcome

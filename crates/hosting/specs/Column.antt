@@ -7,10 +7,10 @@ use Rattle.answers.specs.Told.{Told, told, act}
 use Rattle.answers.specs.declared.Outcome.{Outcome}
 use Rattle.layout.specs.Levels.{postsOf, columnBytes}
 use Rattle.columns.specs.Column.{columnOf}
-use Rattle.writing.specs.Given.{outputAfter}
-use Rattle.writing.specs.Column.{afterNumber}
-use Rattle.hosting.specs.Words.{heightsIn}
-use Rattle.hosting.specs.Given.{judgedGiven}
+use Rattle.streaming.specs.Given.{outputAfter}
+use Rattle.streaming.specs.Column.{afterNumber}
+use Rattle.wording.specs.Words.{heightsIn}
+use Rattle.wording.specs.Given.{judgedGiven}
 
 -- X1: the order of the call, for an output of so many bytes; voids are allowed
 unfoldable pub judgedColumnBytes : ℕ → ℕ → List ℕ → ℕ → Outcome

@@ -1,5 +1,3 @@
--- A C host's heights, and what the writers make of them.
-pub mod Words
-pub mod Given
+-- What the writers make of items as numbers and heights in bytes.
 pub mod Cell
 pub mod Column

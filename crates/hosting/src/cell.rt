@@ -6,25 +6,25 @@ ghost use lib.ListN.{length};
 ghost use Rattle.answers.specs.declared.Outcome.the-variants.{Done};
 ghost use Rattle.answers.specs.Told as told;
 ghost use Rattle.describing.specs.Items.{inRange};
-ghost use Rattle.describing.specs.Written.{factsFor};
-ghost use Rattle.writing.specs.Given.{outputAfter};
+ghost use Rattle.describing.specs.Facts.{factsFor};
+ghost use Rattle.streaming.specs.Given.{outputAfter};
 ghost use Rattle.writing.specs.Grid.{columnsWritten};
 ghost use Rattle.writing.specs.Cell.{postsDue, cellOf};
-ghost use Rattle.hosting.specs.Words.{heightsIn};
+ghost use Rattle.wording.specs.Words.{heightsIn};
 ghost use Rattle.hosting.specs.Cell.{judgedUnder, judgedBytes, bytesTold, bytesOutput};
-use crate::given::judge_given;
-use crate::given::put_given;
 use answers::Outcome;
 use answers::Refusal;
+use composing::write::put_headers;
 use describing::Description;
 use describing::facts::facts_for;
-use describing::write::put_headers;
 use headers::judge::may_hold_voids;
 use layout::Grid;
 use layout::HEADER_BYTES;
 use numbering::items::ITEMS;
 use numbering::items::bad_number;
 use numbering::items::description;
+use wording::given::judge_given;
+use wording::given::put_given;
 
 // Whether the grid may be written under a description into so much room.
 fn judge_under(d: Description, grid: &[u8], room: usize) -> Outcome

@@ -4,13 +4,13 @@ ghost use lib.ListN.{length};
 ghost use Prim.Native.Nat.{_+_, _*_, _<_, _≤_};
 ghost use Rattle.answers.specs.Told as told;
 ghost use Rattle.columns.specs.Column.{columnOf};
-ghost use Rattle.hosting.specs.Words.{heightsIn};
+ghost use Rattle.wording.specs.Words.{heightsIn};
 ghost use Rattle.hosting.specs.Column.{judgedColumnBytes, columnBytesTold, columnBytesOutput};
-use crate::given::judge_given;
-use crate::given::put_given;
 use answers::Outcome;
-use writing::column::Placed;
-use writing::column::place;
+use streaming::column::Placed;
+use streaming::column::place;
+use wording::given::judge_given;
+use wording::given::put_given;
 
 // Whether the column may be written into so much room.
 fn judge(level: usize, number: usize, posts: &[u8], room: usize) -> Outcome

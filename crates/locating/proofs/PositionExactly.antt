@@ -13,7 +13,7 @@ use Rattle.headers.specs.declared.Judged.{Judged}
 use Rattle.headers.specs.declared.Judged.the-variants.{Good, Refused}
 use Rattle.headers.proofs.Exactly.{follows-good}
 use Rattle.headers.proofs.FirstFour.{good-facts}
-use Rattle.reading.specs.Reach.{reachedIn, reachedUnder, reached}
+use Rattle.reaching.specs.Reach.{reachedIn, reachedUnder, reached}
 use Rattle.layout.specs.Levels.{degree}
 use Rattle.locating.specs.Position.{alongAxis, inCell, cornerAt, southWest, nearest, nearestColumn, nearestPost, latitudeOf, longitudeOf, readAt, locatedBy, locatedUnder, located}
 use Rattle.locating.specs.declared.position.Along.{Along}

@@ -12,9 +12,9 @@ use Rattle.headers.specs.Judged.{judged}
 use Rattle.headers.specs.declared.Facts.{Facts}
 use Rattle.headers.specs.declared.Judged.{Judged}
 use Rattle.headers.specs.declared.Judged.the-variants as headers
-use Rattle.reading.specs.Reach.{reachedIn}
-use Rattle.reading.specs.Lookup.{readingOf}
-use Rattle.reading.specs.declared.reach.Reached.{Reached}
+use Rattle.reaching.specs.Reach.{reachedIn}
+use Rattle.reaching.specs.Lookup.{readingOf}
+use Rattle.reaching.specs.declared.reach.Reached.{Reached}
 use Rattle.locating.specs.declared.position.Along.{Along}
 use Rattle.locating.specs.declared.position.Along.the-variants.{On, Off}
 use Rattle.locating.specs.declared.position.Corner.{Corner}

@@ -8,8 +8,8 @@ use answers::Reading;
 use answers::Refusal;
 use headers::Facts;
 use layout::DEGREE;
-use reading::lookup::read;
-use reading::reach::reach_in;
+use reaching::lookup::read;
+use reaching::reach::reach_in;
 
 // Tenths of an arc-second in the full circle.
 const CIRCLE: usize = 12960000;

@@ -13,7 +13,7 @@ use Rattle.octets.specs.Choice.{both}
 use Rattle.octets.specs.Tests.{every}
 use Rattle.octets.proofs.ChoiceLaws.{both-true}
 use Rattle.octets.proofs.TestLaws.{each-true}
-use Rattle.headers.specs.Rules.{isLetter, isVersion}
+use Rattle.rules.specs.Rules.{isLetter, isVersion}
 use Rattle.describing.specs.Items.{accuracyRanged, itemTests, inRange}
 use Rattle.describing.specs.declared.Accuracy.{Accuracy}
 use Rattle.describing.specs.declared.Accuracy.the-variants.{Metres, Unknown}
@@ -22,7 +22,8 @@ use Rattle.describing.specs.declared.Datum.the-variants.{Msl, E96}
 use Rattle.describing.specs.declared.Description.{Description}
 use Rattle.describing.proofs.RangedItems.{Lowest, first-exactly, ranged-items}
 use Rattle.numbering.specs.Items as items
-use Rattle.numbering.specs.Items.{item, between, isAccuracy, numberTests, badNumber, counted, datumFor, descriptionOf, datumNumber, accuracyNumber, numbersOf}
+use Rattle.posts.specs.Words.{between}
+use Rattle.numbering.specs.Items.{item, isAccuracy, numberTests, badNumber, counted, datumFor, descriptionOf, datumNumber, accuracyNumber, numbersOf}
 use Rattle.numbering.proofs.NumberRanges.{ranged, Angled, angled, letters, versions, passes-counted, difference-back, difference-between}
 use Rattle.numbering.proofs.RangedNumbers.{ranged-numbers}
 

@@ -11,9 +11,10 @@ use mir.Val.{SFits, Fits, bits}
 use mir.Facts.{toZ-ofZ}
 use borrow.Author.Tests.{leb-true, lt-ltb, le-ltb, le-leb, lt-leb, ne-eqb}
 use Rattle.octets.proofs.ChoiceLaws.{both-true, clash, by-order}
-use Rattle.headers.specs.Rules.{isLetter, isVersion}
+use Rattle.rules.specs.Rules.{isLetter, isVersion}
 use Rattle.posts.proofs.Signed.{NotBelow}
-use Rattle.numbering.specs.Items.{between, isAccuracy, counted}
+use Rattle.posts.specs.Words.{between}
+use Rattle.numbering.specs.Items.{isAccuracy, counted}
 
 -- a number between two that are not below 0
 pub record Ranged (low high : ℕ) (z : ℤ) : Type 0 where

@@ -6,9 +6,10 @@ use mathlib.Core.List.{List}
 use lib.IntN.{ℤ, pos, negℤ}
 use lib.ListN.{getD}
 use Rattle.octets.proofs.TestLaws.{each-true}
-use Rattle.headers.specs.Rules.{isLetter, isVersion}
+use Rattle.rules.specs.Rules.{isLetter, isVersion}
 use Rattle.describing.proofs.RangedItems.{first-exactly}
-use Rattle.numbering.specs.Items.{item, between, isAccuracy, counted, numberTests, badNumber}
+use Rattle.posts.specs.Words.{between}
+use Rattle.numbering.specs.Items.{item, isAccuracy, counted, numberTests, badNumber}
 
 pub record RangedNumbers (zs : List ℤ) : Type 0 where
   pub level : between (pos 0) (pos 2) (item zs 0) ≡ true

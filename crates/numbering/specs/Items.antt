@@ -4,9 +4,9 @@ use mathlib.Core.Bool.{Bool}
 use mathlib.Core.List.{List, [], _∷_}
 use lib.IntN.{ℤ, pos, negsuc, negℤ, _+ℤ_, _-ℤ_}
 use lib.ListN.{getD}
-use lib.Signed.{leZ}
-use Rattle.octets.specs.Choice.{pick, both}
-use Rattle.headers.specs.Rules.{isLetter, isVersion}
+use Rattle.octets.specs.Choice.{pick}
+use Rattle.posts.specs.Words.{between}
+use Rattle.rules.specs.Rules.{isLetter, isVersion}
 use Rattle.describing.specs.Items.{firstFailed}
 use Rattle.describing.specs.declared.Accuracy.{Accuracy}
 use Rattle.describing.specs.declared.Accuracy.the-variants.{Metres, Unknown}
@@ -19,10 +19,7 @@ use Rattle.describing.specs.declared.Description.{Description}
 abbrev pub item : List ℤ → ℕ → ℤ
 item zs i = getD zs i (pos 0)
 
--- W2: a number in a range, ends included, and this number alone
-abbrev pub between : ℤ → ℤ → ℤ → Bool
-between low high z = both (leZ low z) (leZ z high)
-
+-- W2: this number alone
 abbrev pub is : ℤ → ℤ → Bool
 is a z = between a a z
 

@@ -4,16 +4,17 @@ ghost use mathlib.Core.Bool.{true};
 ghost use Prim.Native.Nat.{_+_, _-_, _<_, _≤_};
 ghost use lib.IntN.{pos, negℤ, _+ℤ_};
 ghost use lib.Signed.{leZ};
-ghost use Rattle.headers.specs.Rules.{isLetter, isVersion};
-ghost use Rattle.numbering.specs.Items.{item, between, isAccuracy, numberTests, badNumber, counted, datumFor, accuracyFor, accuraciesFor, descriptionOf};
+ghost use Rattle.rules.specs.Rules.{isLetter, isVersion};
+ghost use Rattle.posts.specs.Words.{between};
+ghost use Rattle.numbering.specs.Items.{item, isAccuracy, numberTests, badNumber, counted, datumFor, accuracyFor, accuraciesFor, descriptionOf};
 use describing::Accuracies;
 use describing::Accuracy;
 use describing::Datum;
 use describing::Description;
 use describing::items::first_failed;
-use headers::letters::is_letter;
-use headers::letters::is_version;
 use octets::choices::both;
+use rules::letters::is_letter;
+use rules::letters::is_version;
 
 pub const ITEMS: usize = 13;
 

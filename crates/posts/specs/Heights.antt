@@ -2,9 +2,8 @@
 use Prim.Native.Nat.{ℕ, _+_, _%_}
 use mathlib.Core.Bool.{Bool}
 use lib.IntN.{ℤ, pos, negsuc, negℤ}
-use lib.Signed.{leZ}
-use Rattle.octets.specs.Choice.{pick, both}
-use Rattle.posts.specs.Words.{inRange}
+use Rattle.octets.specs.Choice.{pick}
+use Rattle.posts.specs.Words.{between, inRange}
 use Rattle.posts.specs.declared.Post.{Post}
 use Rattle.posts.specs.declared.Post.the-variants.{Height, Void}
 
@@ -15,7 +14,7 @@ formOf Void = negℤ (pos 32767)
 
 -- the writer's form of void, and no other
 abbrev pub isVoid : ℤ → Bool
-isVoid z = both (leZ (negℤ (pos 32767)) z) (leZ z (negℤ (pos 32767)))
+isVoid z = between (negℤ (pos 32767)) (negℤ (pos 32767)) z
 
 -- P5: what a cell may be given, where voids are allowed or not
 unfoldable pub heightAllowed : Bool → ℤ → Bool

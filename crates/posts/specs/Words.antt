@@ -16,9 +16,13 @@ heightOf w = pick (ltb w 0x8000) (pos w) (negℤ (pos (w - 0x8000)))
 unfoldable pub postOf : ℕ → Post
 postOf w = pick (eqb w 0xFFFF) Void (Height (heightOf w))
 
+-- a number in a range, ends included
+abbrev pub between : ℤ → ℤ → ℤ → Bool
+between low high z = both (leZ low z) (leZ z high)
+
 -- P3: heights run from -12,000 to 9,000
 unfoldable pub inRange : ℤ → Bool
-inRange z = both (leZ (negℤ (pos 12000)) z) (leZ z (pos 9000))
+inRange z = between (negℤ (pos 12000)) (pos 9000) z
 
 -- P4: void is allowed where voids are, 8000 hex nowhere, any other word where its height is in range
 unfoldable pub wordAllowed : Bool → ℕ → Bool

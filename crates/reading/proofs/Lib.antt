@@ -1,4 +1,4 @@
--- The laws of reading.
+-- The laws of intake.
 pub mod Turns
 pub mod EveryColumn
 pub mod CellExactly
@@ -6,6 +6,3 @@ pub mod PassedOver
 pub mod IntakeExactly
 pub mod NeverMore
 pub mod OneByte
-pub mod PostReached
-pub mod ReachedExactly
-pub mod LookupLaws

@@ -1,4 +1,2 @@
-// Reading a cell from its bytes: intake of the whole, and lookup of one post by its number.
+// Reading a whole cell from its bytes.
 pub mod intake;
-pub mod lookup;
-pub mod reach;

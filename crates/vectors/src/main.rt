@@ -76,7 +76,7 @@ fn description(level: usize, longitude: usize, partial: usize) -> Description {
 fn put_headers(cell: &mut [u8], d: Description) {
     if HEADER_BYTES <= cell.len() {
         if describing::items::bad_item(d) == 0 {
-            describing::write::put_headers(cell, d);
+            composing::write::put_headers(cell, d);
         }
     }
 }

@@ -21,7 +21,7 @@ fn put_heights(heights: &mut [i16], column: usize) {
 // A column from the first of these heights, where there are so many.
 fn put_column(buffer: &mut [u8], level: usize, number: usize, heights: &[i16], posts: usize) {
     if posts <= heights.len() {
-        writing::column::write(buffer, level, number, &heights[..posts]);
+        streaming::column::write(buffer, level, number, &heights[..posts]);
     }
 }
 

@@ -21,12 +21,12 @@ use Rattle.headers.proofs.FirstFour.{level-below}
 use Rattle.columns.specs.Column.{columnOf, heightsFrom}
 use Rattle.columns.proofs.PostsRead.{length-heights, heights-allowed}
 use Rattle.reading.specs.Cell.{columnAt, Cell}
-use Rattle.writing.specs.Column.{zoneOneColumns, judgedColumn, columnOutput}
-use Rattle.writing.specs.Given.{outputAfter}
+use Rattle.streaming.specs.Column.{zoneOneColumns, judgedColumn, columnOutput}
+use Rattle.streaming.specs.Given.{outputAfter}
 use Rattle.writing.proofs.CellAfresh.{column-afresh}
-use Rattle.writing.proofs.ColumnExactly.{given}
-use Rattle.writing.proofs.NumberExactly.{then-rest}
-use Rattle.writing.proofs.GivenExactly.{Held, fine}
+use Rattle.streaming.proofs.ColumnExactly.{given}
+use Rattle.streaming.proofs.NumberExactly.{then-rest}
+use Rattle.streaming.proofs.GivenExactly.{Held, fine}
 use Rattle.writing.proofs.OwnGrid.{cell-facts}
 
 -- what the level alone makes due, beside a grid

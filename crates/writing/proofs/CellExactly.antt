@@ -9,11 +9,11 @@ use Rattle.answers.specs.declared.Outcome.the-variants.{Done}
 use Rattle.describing.specs.Items.{itemTests, badItem, inRange}
 use Rattle.headers.specs.Judged.{voidsAllowed}
 use Rattle.headers.specs.declared.Facts.{Facts}
-use Rattle.describing.specs.Written.{factsFor}
+use Rattle.describing.specs.Facts.{factsFor}
 use Rattle.describing.specs.declared.Description.{Description}
-use Rattle.writing.specs.Given.{judgedPosts}
+use Rattle.streaming.specs.Given.{judgedPosts}
 use Rattle.writing.specs.Cell.{postsDue, judgedCell}
-use Rattle.writing.proofs.GivenExactly.{GivenRow, given-row, row-given, Fine, given-fine}
+use Rattle.streaming.proofs.GivenExactly.{GivenRow, given-row, row-given, Fine, given-fine}
 use Rattle.writing.proofs.ItemExactly.{ItemRow, none-bad}
 use Rattle.writing.proofs.ItemExactly as by-item
 

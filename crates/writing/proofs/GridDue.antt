@@ -6,7 +6,7 @@ use Rattle.layout.specs.declared.Grid.{Grid}
 use Rattle.layout.proofs.Ranges.{Ranged, ranged}
 use Rattle.angles.specs.Angles.{edgeOf}
 use Rattle.describing.specs.Items.{inRange}
-use Rattle.describing.specs.Written.{dueFor, factsFor}
+use Rattle.describing.specs.Facts.{dueFor, factsFor}
 use Rattle.describing.specs.declared.Description.{Description}
 use Rattle.angles.proofs.NearEdges.{edge-below}
 use Rattle.describing.proofs.RangedItems.{ranged-items}

@@ -1,13 +1,8 @@
--- The laws of the writers.
-pub mod HeightSearch
-pub mod GivenExactly
-pub mod NumberExactly
-pub mod ColumnExactly
+-- The laws of the cell writer.
 pub mod ItemExactly
 pub mod CellExactly
 pub mod Joined
 pub mod ColumnParts
-pub mod OutputPut
 pub mod GridDue
 pub mod OwnGrid
 pub mod CellAfresh

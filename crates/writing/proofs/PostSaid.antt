@@ -10,7 +10,7 @@ use Rattle.posts.specs.Heights.{heightAllowed, wordOf}
 use Rattle.posts.proofs.PostWords.{up-post, down-post}
 use Rattle.posts.proofs.Pairs.{Pair, void, up, down, pair-of-height}
 use Rattle.posts.proofs.Voids.{not-void}
-use Rattle.reading.specs.Lookup.{postReads}
+use Rattle.reaching.specs.Lookup.{postReads}
 use Rattle.writing.specs.Grid.{saidOf}
 
 said-of-pair : {voids : Bool} {w : ℕ} {z : ℤ} → Pair voids w z → told post (postReads (postOf w)) ≡ saidOf z

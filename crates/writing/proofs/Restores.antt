@@ -12,21 +12,21 @@ use Rattle.posts.specs.Heights.{wordOf}
 use Rattle.describing.specs.Items.{inRange}
 use Rattle.headers.specs.Judged.{voidsAllowed}
 use Rattle.describing.specs.Described.{described}
-use Rattle.describing.specs.Written.{factsFor}
+use Rattle.describing.specs.Facts.{factsFor}
 use Rattle.describing.specs.declared.Description.{Description}
 use Rattle.describing.specs.declared.Described.the-variants.{As}
-use Rattle.describing.proofs.WrittenGood.{written-described}
+use Rattle.composing.proofs.WrittenGood.{written-described}
 use Rattle.columns.specs.Column.{columnOf, wordIn, heightsFrom}
 use Rattle.columns.proofs.WrittenGood.{word-in-written, heights-back}
 use Rattle.reading.specs.Cell.{columnAt}
 use Rattle.reading.specs.Intake.{taken}
-use Rattle.reading.specs.Lookup.{lookedUp}
+use Rattle.reaching.specs.Lookup.{lookedUp}
 use Rattle.reading.proofs.CellExactly.{cell-accepted}
-use Rattle.reading.proofs.LookupLaws.{post-found}
+use Rattle.reaching.proofs.LookupLaws.{post-found}
 use Rattle.writing.specs.Grid.{heightsOf, heightAt, saidOf, columnsWritten, postsIn, gridIn}
 use Rattle.writing.specs.Cell.{postsDue, cellOf}
 use Rattle.writing.proofs.ColumnParts.{length-heights}
-use Rattle.writing.proofs.GivenExactly.{Held}
+use Rattle.streaming.proofs.GivenExactly.{Held}
 use Rattle.writing.proofs.Joined.{part-within, element, join-cut}
 use Rattle.writing.proofs.OwnGrid.{postsAt, posts-none, posts-more}
 use Rattle.writing.proofs.PostSaid.{said-of-word}

@@ -12,11 +12,12 @@ use Rattle.posts.specs.Heights.{heightAllowed}
 use Rattle.describing.specs.Items.{inRange}
 use Rattle.headers.specs.Judged.{factsIn, voidsAllowed, Follows}
 use Rattle.describing.specs.Described.{itemsIn}
-use Rattle.describing.specs.Written.{dueFor, factsFor, headersFor}
+use Rattle.describing.specs.Facts.{dueFor, factsFor}
+use Rattle.composing.specs.Written.{headersFor}
 use Rattle.describing.specs.declared.Description.{Description}
 use Rattle.headers.proofs.Exactly.{good-follows}
-use Rattle.describing.proofs.WrittenGood as describing
-use Rattle.describing.proofs.WrittenLength.{length-headers}
+use Rattle.composing.proofs.WrittenGood as describing
+use Rattle.composing.proofs.WrittenLength.{length-headers}
 use Rattle.columns.specs.Column.{columnOf, GoodColumn}
 use Rattle.columns.proofs.ColumnBytes.{length-column}
 use Rattle.columns.proofs.WrittenGood as columns
@@ -24,7 +25,7 @@ use Rattle.reading.specs.Cell.{columnAt, Cell}
 use Rattle.writing.specs.Grid.{heightsOf, columnsWritten}
 use Rattle.writing.specs.Cell.{postsDue, cellOf}
 use Rattle.writing.proofs.ColumnParts.{columns-none, columns-more, length-heights, length-columns}
-use Rattle.writing.proofs.GivenExactly.{Held}
+use Rattle.streaming.proofs.GivenExactly.{Held}
 use Rattle.writing.proofs.GridDue.{due-ranged, columns-bytes}
 use Rattle.writing.proofs.Joined.{part-within, element, part-there}
 

@@ -12,9 +12,10 @@ use Rattle.answers.specs.declared.Outcome.the-variants.{Refused}
 use Rattle.layout.specs.declared.Grid.{Grid}
 use Rattle.describing.specs.Items.{badItem}
 use Rattle.headers.specs.Judged.{voidsAllowed}
-use Rattle.describing.specs.Written.{factsFor, headersFor}
+use Rattle.describing.specs.Facts.{factsFor}
+use Rattle.composing.specs.Written.{headersFor}
 use Rattle.describing.specs.declared.Description.{Description}
-use Rattle.writing.specs.Given.{judgedPosts, outputAfter}
+use Rattle.streaming.specs.Given.{judgedPosts, outputAfter}
 use Rattle.writing.specs.Grid.{afresh}
 
 -- the posts of a grid, all its columns together

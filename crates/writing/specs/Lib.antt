@@ -1,5 +1,3 @@
--- What the writers judge, and what they write.
-pub mod Given
-pub mod Column
+-- What the cell writer judges, and what it writes.
 pub mod Grid
 pub mod Cell

@@ -6,20 +6,20 @@ ghost use Prim.Native.Nat.{_+_, _*_, _≤_};
 ghost use lib.ListN.{length, drop};
 ghost use Rattle.answers.specs.Told as told;
 ghost use Rattle.describing.specs.Items.{inRange};
-ghost use Rattle.describing.specs.Written.{factsFor};
+ghost use Rattle.describing.specs.Facts.{factsFor};
 ghost use Rattle.writing.specs.Grid.{columnsWritten};
 ghost use Rattle.writing.specs.Cell.{postsDue, judgedCell, cellOf, cellTold, cellOutput};
-use crate::given::judge_posts;
 use answers::Outcome;
 use answers::Refusal;
 use columns::write::put_column;
+use composing::write::put_headers;
 use describing::Description;
 use describing::facts::facts_for;
 use describing::items::bad_item;
-use describing::write::put_headers;
 use headers::judge::may_hold_voids;
 use layout::Grid;
 use layout::HEADER_BYTES;
+use streaming::given::judge_posts;
 
 // Whether the cell may be written into so much room.
 fn judge(d: Description, heights: &[i16], room: usize) -> Outcome

@@ -2,7 +2,7 @@
 use Rattle.describing.proofs.LaidGrids.{edge-within}
 use Rattle.describing.proofs.facts.facts_for.Statement.{statement}
 use Rattle.describing.proofs.facts.facts_for.Tie as tie
-use Rattle.describing.specs.Written.{dueFor, factsFor}
+use Rattle.describing.specs.Facts.{dueFor, factsFor}
 use borrow.Author.Needs.{needs}
 
 near-edge-requires : tie.Need-near-edge-requires

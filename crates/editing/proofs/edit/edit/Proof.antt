@@ -1,15 +1,15 @@
 -- `edit`: the post that is reached, then its height, then its column lent and stored in.
 use Rattle.answers.specs.Told.{told, act}
-use Rattle.columns.specs.Stored.{stored}
+use Rattle.storing.specs.Stored.{stored}
 use Rattle.editing.proofs.EditBy.{not-reached, height-refused, height-stored}
 use Rattle.editing.proofs.SpotReached.{SpotOf, spot-reached, lent, can-store, stored-back}
 use Rattle.editing.proofs.edit.edit.Statement.{statement}
 use Rattle.editing.proofs.edit.edit.Tie as tie
 use Rattle.editing.specs.Edit.{editTold}
 use Rattle.posts.specs.Heights.{heightAllowed, wordOf}
-use Rattle.reading.specs.Reach.{reached}
-use Rattle.reading.specs.declared.reach.Reached.the-variants.{At}
-use Rattle.reading.specs.declared.reach.Spot.{Spot}
+use Rattle.reaching.specs.Reach.{reached}
+use Rattle.reaching.specs.declared.reach.Reached.the-variants.{At}
+use Rattle.reaching.specs.declared.reach.Spot.{Spot}
 use borrow.Author.Needs.{needs}
 use borrow.Author.Tests.{not-true, not-false}
 use mathlib.Core.Path.{_≡_, sym, ap, _∙_}

@@ -7,7 +7,7 @@ use Rattle.headers.proofs.TwoParts.{early-refused, early-fixed, late-re
 use Rattle.headers.specs.Due.{dueIn}
 use Rattle.headers.specs.Judged.{broken, factsIn, judged}
 use Rattle.fields.specs.Table.{fieldAt}
-use Rattle.headers.specs.declared.Due.{Due}
+use Rattle.rules.specs.declared.Due.{Due}
 use Rattle.headers.specs.declared.Judged.the-variants.{Good, Refused}
 use native.Mathlib.Omega.{arith}
 use borrow.Author.Needs.{needs}

@@ -1,10 +1,10 @@
 -- `put_columns`: what stands so far is a paste of the first columns.
 use Prim.Native.Nat.{ℕ, _+_, _-_, _*_, _≤_}
 use Rattle.columns.specs.Column.{columnOf}
-use Rattle.hosting.proofs.HeightBytes.{length-heights, heights-part}
+use Rattle.wording.proofs.HeightBytes.{length-heights, heights-part}
 use Rattle.hosting.proofs.cell.put_columns.Statement.{statement}
 use Rattle.hosting.proofs.cell.put_columns.Tie as tie
-use Rattle.hosting.specs.Words.{heightsIn}
+use Rattle.wording.specs.Words.{heightsIn}
 use Rattle.octets.proofs.PasteLaws.{paste-none, paste-all, length-paste, length-part}
 use Rattle.octets.specs.Pastes.{pasted}
 use Rattle.writing.proofs.ColumnParts.{length-columns, columns-within, column-turn}

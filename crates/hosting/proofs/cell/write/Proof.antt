@@ -10,9 +10,9 @@ use Rattle.hosting.proofs.cell.write.Statement.{statement}
 use Rattle.hosting.proofs.cell.write.Tie as tie
 use Rattle.hosting.specs.Cell.{judgedBytes, bytesTold, bytesOutput}
 use Rattle.numbering.specs.Items.{descriptionOf}
-use Rattle.hosting.specs.Words.{heightsIn}
+use Rattle.wording.specs.Words.{heightsIn}
 use Rattle.writing.specs.Cell.{cellOf}
-use Rattle.writing.specs.Given.{outputAfter}
+use Rattle.streaming.specs.Given.{outputAfter}
 use borrow.Author.Needs.{needs}
 use lib.ListN.{length}
 use mathlib.Core.Path.{_≡_, sym, ap, _∙_}

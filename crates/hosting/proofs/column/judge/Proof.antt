@@ -3,9 +3,9 @@ use Rattle.hosting.proofs.ColumnBytesExactly.{judged-on}
 use Rattle.hosting.proofs.column.judge.Statement.{statement}
 use Rattle.hosting.proofs.column.judge.Tie as tie
 use Rattle.hosting.specs.Column.{judgedColumnBytes}
-use Rattle.writing.proofs.NumberExactly.{placed-ranged}
-use Rattle.writing.specs.Column.{placed, afterNumber}
-use Rattle.writing.specs.declared.column.Placed.the-variants.{On}
+use Rattle.streaming.proofs.NumberExactly.{placed-ranged}
+use Rattle.streaming.specs.Column.{placed, afterNumber}
+use Rattle.streaming.specs.declared.column.Placed.the-variants.{On}
 use borrow.Author.Needs.{needs}
 use mathlib.Core.Path.{_≡_, sym, _∙_}
 use native.Mathlib.Omega.{arith}

@@ -6,16 +6,16 @@ use Rattle.answers.specs.declared.Outcome.the-variants.{Done}
 use Rattle.columns.proofs.ColumnBytes.{length-column}
 use Rattle.columns.specs.Column.{columnOf}
 use Rattle.hosting.proofs.ColumnBytesExactly.{Ready, ready}
-use Rattle.hosting.proofs.HeightBytes.{length-heights}
+use Rattle.wording.proofs.HeightBytes.{length-heights}
 use Rattle.hosting.proofs.column.write.Statement.{statement}
 use Rattle.hosting.proofs.column.write.Tie as tie
 use Rattle.hosting.specs.Column.{judgedColumnBytes, columnBytesTold, columnBytesOutput}
-use Rattle.hosting.specs.Words.{heightsIn}
+use Rattle.wording.specs.Words.{heightsIn}
 use Rattle.layout.specs.Levels.{postsOf}
 use Rattle.octets.proofs.PasteLaws.{length-part}
-use Rattle.writing.proofs.NumberExactly.{number-small}
-use Rattle.writing.proofs.OutputPut.{front-put}
-use Rattle.writing.specs.Given.{outputAfter}
+use Rattle.streaming.proofs.NumberExactly.{number-small}
+use Rattle.streaming.proofs.OutputPut.{front-put}
+use Rattle.streaming.specs.Given.{outputAfter}
 use borrow.Author.Needs.{needs}
 use lib.ListN.{length}
 use mathlib.Core.Path.{_≡_, sym, ap, _∙_}

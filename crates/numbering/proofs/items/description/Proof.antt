@@ -1,5 +1,5 @@
 -- `description`: each item is in its range, and is what the definition makes of it.
-use Rattle.headers.specs.Rules.{isLetter, isVersion}
+use Rattle.rules.specs.Rules.{isLetter, isVersion}
 use Rattle.numbering.proofs.NumberRanges.{from-zero, letters, versions, passes-byte}
 use Rattle.numbering.proofs.RangedNumbers.{RangedNumbers, ranged-numbers}
 use Rattle.numbering.proofs.items.description.Statement.{statement}

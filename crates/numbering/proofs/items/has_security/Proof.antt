@@ -1,5 +1,5 @@
 -- `has_security`: a letter, where the item is a byte.
-use Rattle.headers.specs.Rules.{isLetter}
+use Rattle.rules.specs.Rules.{isLetter}
 use Rattle.numbering.proofs.NumberRanges.{letters, no-byte}
 use Rattle.numbering.proofs.items.has_security.Statement.{statement}
 use Rattle.numbering.proofs.items.has_security.Tie as tie

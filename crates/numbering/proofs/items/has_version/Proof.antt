@@ -1,5 +1,5 @@
 -- `has_version`: a version, where the item is a byte.
-use Rattle.headers.specs.Rules.{isVersion}
+use Rattle.rules.specs.Rules.{isVersion}
 use Rattle.numbering.proofs.NumberRanges.{versions, no-byte}
 use Rattle.numbering.proofs.items.has_version.Statement.{statement}
 use Rattle.numbering.proofs.items.has_version.Tie as tie

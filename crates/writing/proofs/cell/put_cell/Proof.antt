@@ -1,17 +1,17 @@
 -- `put_cell`: the headers at the front, and the columns behind them.
-use Rattle.describing.proofs.WrittenLength.{length-headers}
-use Rattle.describing.specs.Written.{headersFor}
+use Rattle.composing.proofs.WrittenLength.{length-headers}
+use Rattle.composing.specs.Written.{headersFor}
 use Rattle.answers.specs.declared.Outcome.the-variants.{Done}
 use Rattle.layout.specs.declared.Grid.{Grid}
 use Rattle.layout.proofs.Ranges.{Ranged}
 use Rattle.octets.proofs.PasteLaws.{length-part}
 use Rattle.writing.proofs.ColumnParts.{length-columns}
 use Rattle.writing.proofs.GridDue.{due-ranged, columns-bytes}
-use Rattle.writing.proofs.OutputPut.{behind-put}
+use Rattle.streaming.proofs.OutputPut.{behind-put}
 use Rattle.writing.proofs.cell.put_cell.Statement.{statement}
 use Rattle.writing.proofs.cell.put_cell.Tie as tie
 use Rattle.writing.specs.Cell.{cellOf}
-use Rattle.writing.specs.Given.{outputAfter}
+use Rattle.streaming.specs.Given.{outputAfter}
 use Rattle.writing.specs.Grid.{columnsWritten, afresh}
 use borrow.Author.Needs.{needs}
 use mathlib.Core.Path.{ap, _∙_}

@@ -7,7 +7,7 @@ use Rattle.writing.proofs.CellExactly.{Ready, ready}
 use Rattle.writing.proofs.cell.write.Statement.{statement}
 use Rattle.writing.proofs.cell.write.Tie as tie
 use Rattle.writing.specs.Cell.{postsDue, judgedCell, cellOf, cellTold, cellOutput}
-use Rattle.writing.specs.Given.{outputAfter}
+use Rattle.streaming.specs.Given.{outputAfter}
 use borrow.Author.Needs.{needs}
 use lib.ListN.{length}
 use mathlib.Core.Path.{_≡_, sym, ap, _∙_}

@@ -1,0 +1,2 @@
+-- What a description is written as: the texts of its fields, and the free bytes.
+pub mod Written

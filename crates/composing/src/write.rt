@@ -1,0 +1,75 @@
+// Headers written from a description whose items are in range.
+ghost use mathlib.Core.Path.{_≡_};
+ghost use mathlib.Core.Bool.{true};
+ghost use mathlib.Core.List.{_++_};
+ghost use Prim.Native.Nat.{_<_, _≤_};
+ghost use lib.ListN.{length, drop};
+ghost use Rattle.describing.specs.Items.{inRange};
+ghost use Rattle.fields.specs.Table.{fields};
+ghost use Rattle.describing.specs.Facts.{dueFor};
+ghost use Rattle.composing.specs.Written.{withFields, areas, withAreas, freeBytes, headersFor};
+use crate::put::put_field;
+use angles::near_edge;
+use describing::Description;
+use fields::AREAS;
+use fields::FIELDS;
+use fields::row;
+use layout::Grid;
+use layout::HEADER_BYTES;
+use octets::pastes::fill;
+
+// The date of the product specification.
+const SPECIFIED: [u8; 4] = *b"0005";
+
+fn put_areas(head: &mut [u8])
+    requires { ⌜ length (now head) ≡ 3428 ⌝ }
+    ensures { λ _. ⌜ now (head .exit) ≡ withAreas (now (head .entry)) areas ⌝ }
+{
+    let mut i = 0;
+    while i < 4 {
+        let area = AREAS[i];
+        fill(head, area.0, area.1, b'0');
+        i += 1;
+    }
+}
+
+// The bytes that no field holds, and anything where fields will stand.
+fn put_free(head: &mut [u8])
+    requires { ⌜ length (now head) ≡ 3428 ⌝ }
+    ensures { λ _. ⌜ now (head .exit) ≡ freeBytes ⌝ }
+{
+    fill(head, 0, HEADER_BYTES, b' ');
+    put_areas(head);
+    octets::pastes::paste(head, 217, &SPECIFIED);
+}
+
+fn put_fields(head: &mut [u8], d: Description, grid: Grid)
+    requires { ⌜ (length (now head) ≡ 3428) × ((grid ≡ dueFor d .grid) × ((d .latitude < 180) × (d .longitude < 360))) ⌝ }
+    ensures { λ _. ⌜ now (head .exit) ≡ withFields (now (head .entry)) d fields ⌝ }
+{
+    let mut i = 0;
+    while i < FIELDS {
+        let field = row(i);
+        let at = field.0;
+        let kind = field.2;
+        put_field(&mut head[at..at + field.1], kind, d, grid);
+        i += 1;
+    }
+}
+
+fn put_all(head: &mut [u8], d: Description, grid: Grid)
+    requires { ⌜ (length (now head) ≡ 3428) × ((grid ≡ dueFor d .grid) × ((d .latitude < 180) × (d .longitude < 360))) ⌝ }
+    ensures { λ _. ⌜ now (head .exit) ≡ headersFor d ⌝ }
+{
+    put_free(head);
+    put_fields(head, d, grid);
+}
+
+// The headers at the front of `out`; every byte past them stays.
+pub fn put_headers(out: &mut [u8], d: Description)
+    requires { ⌜ (3428 ≤ length (now out)) × (inRange d ≡ true) ⌝ }
+    ensures { λ _. ⌜ now (out .exit) ≡ headersFor d ++ drop 3428 (now (out .entry)) ⌝ }
+{
+    let grid = layout::grid_of(d.level, near_edge(d.latitude));
+    put_all(&mut out[0..HEADER_BYTES], d, grid);
+}

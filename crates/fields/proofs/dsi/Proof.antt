@@ -1,0 +1,18 @@
+-- `dsi`: the code's table is the twenty-four fields after those of the UHL of the definition's.
+use lib.Dec.{lit≤}
+use Rattle.fields.proofs.Records.{record-row}
+use Rattle.fields.proofs.dsi.Statement.{statement}
+use Rattle.fields.proofs.dsi.Tie as tie
+use borrow.Author.Needs.{needs}
+
+mul-result : tie.Need-mul-result
+mul-result c = search needs
+
+array-copy-out-result : tie.Need-array-copy-out-result
+array-copy-out-result c = search needs
+
+returns : tie.Need-returns
+returns c = record-row 10 24 (c .before .args .i) _ (c .before .pre) (lit≤ tt)
+
+pub dsi-spec : {M : Type 1} → statement M
+dsi-spec = tie.close (tie.spec mul-result array-copy-out-result returns)

@@ -1,0 +1,4 @@
+-- The laws of a reached post and of lookup.
+pub mod PostReached
+pub mod ReachedExactly
+pub mod LookupLaws

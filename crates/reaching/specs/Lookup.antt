@@ -1,0 +1,25 @@
+-- Lookup of one post (rule L1): its height or void, or why it was not reached.
+use Prim.Native.Nat.{ℕ}
+use mathlib.Core.List.{List}
+use Rattle.answers.specs.Told.{Told, told, post}
+use Rattle.answers.specs.declared.Reading.{Reading}
+use Rattle.answers.specs.declared.Reading.the-variants as reading
+use Rattle.posts.specs.Words.{postOf}
+use Rattle.posts.specs.declared.Post.{Post}
+use Rattle.posts.specs.declared.Post.the-variants.{Height, Void}
+use Rattle.reaching.specs.Reach.{reached}
+use Rattle.reaching.specs.declared.reach.Reached.{Reached}
+use Rattle.reaching.specs.declared.reach.Reached.the-variants.{At, Refused}
+
+-- P2: what a post reads as
+abbrev pub postReads : Post → Reading
+postReads (Height z) = reading.Height z
+postReads Void = reading.Void
+
+-- and what was reached, or not
+abbrev pub readingOf : Reached → Reading
+readingOf (At spot) = postReads (postOf (spot .word))
+readingOf (Refused r) = reading.Refused r
+
+unfoldable pub lookedUp : List ℕ → ℕ → ℕ → Told
+lookedUp s c p = told post (readingOf (reached s c p))

@@ -1,0 +1,69 @@
+// Reaching one post of a cell: the headers are judged, then the post's column, and nothing else is read.
+ghost use mathlib.Core.Path.{_≡_};
+ghost use Prim.Native.Nat.{_+_, _*_, _≤_};
+ghost use lib.ListN.{length};
+ghost use Rattle.reaching.specs.Reach as by;
+use answers::Refusal;
+use columns::Judged;
+use headers::Facts;
+use headers::judge::may_hold_voids;
+use layout::HEADER_BYTES;
+use octets::numbers::be16;
+
+// A post of a good column: where the column starts, how many posts it has, whether it may hold voids, and the post's word.
+pub struct Spot {
+    pub start: usize,
+    pub posts: usize,
+    pub voids: bool,
+    pub word: u16,
+}
+
+pub enum Reached {
+    At(Spot),
+    Refused(Refusal),
+}
+
+// A post under headers that were judged good.
+pub fn reach_in(cell: &[u8], facts: Facts, column: usize, post: usize) -> Reached
+    requires { ⌜ (facts .grid .columns ≤ 3601) × ((facts .grid .posts ≤ 3601) × (facts .grid .bytes .column ≡ 12 + 2 * facts .grid .posts)) ⌝ }
+    ensures { λ r. ⌜ r ≡ by.reachedIn (now (cell .entry)) facts column post ⌝ }
+{
+    let grid = facts.grid;
+    let posts = grid.posts;
+    if grid.columns <= column {
+        return Reached::Refused(Refusal::OffGrid);
+    }
+    if posts <= post {
+        return Reached::Refused(Refusal::OffGrid);
+    }
+    let bytes = grid.bytes;
+    let size = bytes.column;
+    let start = HEADER_BYTES + column * size;
+    let end = start + size;
+    if cell.len() < end {
+        return Reached::Refused(Refusal::Cut(start));
+    }
+    let voids = may_hold_voids(facts);
+    let part = &cell[start..end];
+    let judged = columns::judge(part, column, posts, voids, start);
+    match judged {
+        Judged::Good => Reached::At(Spot {
+            start,
+            posts,
+            voids,
+            word: be16(part, 8 + 2 * post),
+        }),
+        Judged::Refused(refusal) => Reached::Refused(refusal),
+    }
+}
+
+// A post of any bytes; any numbers.
+pub fn reach(cell: &[u8], column: usize, post: usize) -> Reached
+    ensures { λ r. ⌜ r ≡ by.reached (now (cell .entry)) column post ⌝ }
+{
+    let judged = headers::judge::judge(cell);
+    match judged {
+        headers::Judged::Good(facts) => reach_in(cell, facts, column, post),
+        headers::Judged::Refused(refusal) => Reached::Refused(refusal),
+    }
+}

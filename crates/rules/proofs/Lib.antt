@@ -1,0 +1,1 @@
+-- The proofs of the tests, one to a kind of field.

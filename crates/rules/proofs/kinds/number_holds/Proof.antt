@@ -1,0 +1,19 @@
+-- `number_holds`: four digits, and the number that they write.
+use Rattle.rules.proofs.kinds.number_holds.Statement.{statement}
+use Rattle.rules.proofs.kinds.number_holds.Tie as tie
+use borrow.Author.Needs.{needs}
+
+are-digits-requires : tie.Need-are-digits-requires
+are-digits-requires c κs = search needs
+
+decimal-requires : tie.Need-decimal-requires
+decimal-requires c κs = search needs
+
+both-requires : tie.Need-both-requires
+both-requires c κs = search needs
+
+returns : tie.Need-returns
+returns c = cc
+
+pub number-holds-spec : {M : Type 1} → statement M
+number-holds-spec = tie.close (tie.spec are-digits-requires decimal-requires both-requires returns)

@@ -1,0 +1,2 @@
+-- What each field of the headers must hold.
+pub mod Rules

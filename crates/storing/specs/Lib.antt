@@ -1,0 +1,2 @@
+-- What a column is after one of its posts is stored.
+pub mod Stored

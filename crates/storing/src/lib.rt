@@ -1,0 +1,2 @@
+// Storing one post in a good column, in place.
+pub mod store;

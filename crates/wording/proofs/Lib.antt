@@ -1,0 +1,3 @@
+-- The laws of heights in bytes.
+pub mod HeightBytes
+pub mod GivenBytes
