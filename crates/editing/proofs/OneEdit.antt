@@ -9,7 +9,7 @@ use lib.ListN.{length, getD, take, drop, set, length-set}
 use lib.Seq.{take-all}
 use Rattle.octets.specs.Pastes.{pasted}
 use Rattle.octets.proofs.ChoiceLaws.{by-test, by-order, by-equal}
-use Rattle.octets.proofs.PartLaws.{paste-shown, paste-before, paste-behind}
+use Rattle.octets.proofs.PartLaws.{part-bytes, paste-shown, paste-before, paste-behind}
 use Rattle.octets.proofs.PasteLaws.{length-paste, paste-bytes}
 use Rattle.answers.specs.declared.Refusal.{Refusal}
 use Rattle.answers.specs.declared.Refusal.the-variants.{OffGrid, Height}
@@ -32,7 +32,7 @@ use Rattle.reaching.specs.declared.reach.Reached.the-variants as reach
 use Rattle.reading.proofs.CellExactly.{column-whole}
 use Rattle.reaching.proofs.ReachedExactly.{good, off, given}
 use Rattle.writing.specs.Grid.{heightsOf, afresh, postsIn, gridIn}
-use Rattle.writing.proofs.CellAfresh.{part-bytes, cell-afresh}
+use Rattle.writing.proofs.CellAfresh.{cell-afresh}
 use Rattle.writing.proofs.Joined.{join-cut}
 use Rattle.writing.proofs.OwnGrid.{postsAt, posts-none, posts-more, length-grid, own-column, cell-facts}
 use Rattle.editing.specs.Edit.{judgedEdit, storedIn, edited}

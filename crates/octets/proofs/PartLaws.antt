@@ -4,7 +4,7 @@ use native.Mathlib.Nat.{add-zero}
 use native.Mathlib.Omega.{arith}
 use mathlib.Core.Path.{_≡_, refl, sym, ap, _∙_}
 use mathlib.Core.List.{List, [], _∷_, _++_, append-assoc}
-use lib.Dec.{eqb}
+use lib.Dec.{eqb, lit<}
 use lib.ListN.{length, getD, take, drop, length-append, length-drop, take-append-drop}
 use lib.Seq.{length-take-le, take-append-le, take-append-seam, drop-append-le, drop-append-add, drop-at, drop-drop, getD-take, getD-drop, ext-getD}
 use Rattle.octets.specs.Digits.{digitsAt, digitOf, decimalAt}
@@ -53,6 +53,16 @@ module _ {A : Type 0} (l : List A) (i : ℕ) (vs : List A) where
 -- a byte of a part
 pub byte-part : (s : List ℕ) (at n i : ℕ) → i < n → getD (take n (drop at s)) i 0 ≡ getD s (at + i) 0
 byte-part s at n i h = getD-take n (drop at s) i 0 h ∙ getD-drop at s i 0
+
+-- a part of bytes is bytes
+front-bytes : (n : ℕ) (s : List ℕ) → ((i : ℕ) → getD s i 0 < 256) → (i : ℕ) → getD (take n s) i 0 < 256
+front-bytes zero s f i = lit< tt
+front-bytes (suc n) [] f i = lit< tt
+front-bytes (suc n) (x ∷ s) f zero = f 0
+front-bytes (suc n) (x ∷ s) f (suc i) = front-bytes n s (λ j. f (suc j)) i
+
+pub part-bytes : (s : List ℕ) (at n : ℕ) → ((i : ℕ) → getD s i 0 < 256) → (i : ℕ) → getD (take n (drop at s)) i 0 < 256
+part-bytes s at n f = front-bytes n (drop at s) (λ i. rw (getD-drop at s i 0) (f (at + i)))
 
 -- readers of the same bytes read the same
 digits-same : (s t : List ℕ) (a b n : ℕ) → ((i : ℕ) → i < n → getD s (a + i) 0 ≡ getD t (b + i) 0) → digitsAt s a n ≡ digitsAt t b n

@@ -1,10 +1,10 @@
 // The examples that are run, not marked: whole cells streamed from the column writer, and intake of the cell on standard input, changed in known ways.
+ghost use Prim.Native.Nat.{_<_};
 use describing::Accuracies;
 use describing::Accuracy;
 use describing::Datum;
 use describing::Description;
 use layout::HEADER_BYTES;
-use layout::Laid;
 
 mod stream;
 
@@ -18,19 +18,15 @@ const CELL: usize = 34162;
 const ROOM: usize = 34163;
 
 // The length of a zone I cell of a level, and what its pieces answer.
-fn print_streamed(level: usize) {
-    let laid = layout::lay(level, 0);
-    match laid {
-        Laid::Out(grid) => {
-            let bytes = grid.bytes;
-            io::print_decimal(OUTPUT, bytes.cell as u64);
-            io::write_all(OUTPUT, b" bytes\n");
-            let answer = stream::stream(level, grid.columns, grid.posts);
-            printing::verdict(OUTPUT, answer);
-        }
-        Laid::NoLevel => {}
-        Laid::NoZone => {}
-    }
+fn print_streamed(level: usize)
+    requires { ⌜ level < 3 ⌝ }
+{
+    let grid = layout::grid_of(level, 0);
+    let bytes = grid.bytes;
+    io::print_decimal(OUTPUT, bytes.cell as u64);
+    io::write_all(OUTPUT, b" bytes\n");
+    let answer = stream::stream(level, grid.columns, grid.posts);
+    printing::verdict(OUTPUT, answer);
 }
 
 // Intake of the first n bytes.

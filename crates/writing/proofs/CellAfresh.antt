@@ -1,11 +1,11 @@
 -- A cell is its headers and its columns written afresh from its own posts (rules X2 and D3).
-use Prim.Native.Nat.{ℕ, zero, suc, _+_, _*_, _<_, _≤_}
+use Prim.Native.Nat.{ℕ, _*_, _<_, _≤_}
 use native.Mathlib.Omega.{arith}
 use mathlib.Core.Path.{_≡_, sym, ap, _∙_}
-use mathlib.Core.List.{List, [], _∷_}
-use lib.Dec.{lit<}
+use mathlib.Core.List.{List}
 use lib.ListN.{length, getD, take, drop, length-drop, take-append-drop}
-use lib.Seq.{take-all, drop-drop, getD-drop}
+use lib.Seq.{take-all, drop-drop}
+use Rattle.octets.proofs.PartLaws.{part-bytes}
 use Rattle.layout.specs.Grid.{headerBytes}
 use Rattle.headers.specs.Judged.{factsIn, voidsAllowed}
 use Rattle.columns.specs.Column.{columnOf, heightsFrom}
@@ -15,16 +15,6 @@ use Rattle.writing.specs.Grid.{heightsOf, columnsWritten, afresh, gridIn
 use Rattle.writing.proofs.ColumnParts.{columns-none, columns-more}
 use Rattle.writing.proofs.Joined.{join-cut}
 use Rattle.writing.proofs.OwnGrid.{cell-facts, own-column}
-
--- a part of bytes is bytes
-front-bytes : (n : ℕ) (s : List ℕ) → ((i : ℕ) → getD s i 0 < 256) → (i : ℕ) → getD (take n s) i 0 < 256
-front-bytes zero s f i = lit< tt
-front-bytes (suc n) [] f i = lit< tt
-front-bytes (suc n) (x ∷ s) f zero = f 0
-front-bytes (suc n) (x ∷ s) f (suc i) = front-bytes n s (λ j. f (suc j)) i
-
-pub part-bytes : (s : List ℕ) (at n : ℕ) → ((i : ℕ) → getD s i 0 < 256) → (i : ℕ) → getD (take n (drop at s)) i 0 < 256
-part-bytes s at n f = front-bytes n (drop at s) (λ i. rw (getD-drop at s i 0) (f (at + i)))
 
 module _ (s : List ℕ) (bytes : (i : ℕ) → getD s i 0 < 256) (cell : Cell s) where
   -- a column written from its own posts

@@ -3,6 +3,7 @@ pub mod ItemExactly
 pub mod CellExactly
 pub mod Joined
 pub mod ColumnParts
+pub mod SoFar
 pub mod GridDue
 pub mod OwnGrid
 pub mod CellAfresh

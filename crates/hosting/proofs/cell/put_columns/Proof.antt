@@ -1,35 +1,34 @@
--- `put_columns`: what stands so far is a paste of the first columns.
+-- `put_columns`: after k turns the first k columns stand, and the bytes of so many heights are used.
 use Prim.Native.Nat.{ℕ, _+_, _-_, _*_, _≤_}
 use Rattle.columns.specs.Column.{columnOf}
 use Rattle.wording.proofs.HeightBytes.{length-heights, heights-part}
 use Rattle.hosting.proofs.cell.put_columns.Statement.{statement}
 use Rattle.hosting.proofs.cell.put_columns.Tie as tie
 use Rattle.wording.specs.Words.{heightsIn}
-use Rattle.octets.proofs.PasteLaws.{paste-none, paste-all, length-paste, length-part}
-use Rattle.octets.specs.Pastes.{pasted}
-use Rattle.writing.proofs.ColumnParts.{length-columns, columns-within, column-turn}
+use Rattle.octets.proofs.PasteLaws.{length-part}
+use Rattle.writing.proofs.SoFar.{SoFar, none, next-there, next, every}
 use Rattle.writing.proofs.Joined.{next-part, part-within, parts-small}
-use Rattle.writing.specs.Grid.{columnsWritten}
 use borrow.Author.Needs.{needs}
 use lib.IntN.{ℤ}
 use lib.ListN.{length, take, drop}
 use mathlib.Core.List.{List}
-use mathlib.Core.Path.{_≡_, refl, sym, ap, _∙_}
+use mathlib.Core.Path.{_≡_, refl, ap, _∙_}
 use native.Mathlib.Omega.{arith}
 
 record Inv (out₀ : List ℕ) (buffer₀ : List ℤ) (columns posts : ℕ) (grid out : List ℕ) (buffer : List ℤ) (k at from : ℕ) : Type 0 where
-  within : k ≤ columns
-  at-part : at ≡ k * (12 + 2 * posts)
+  so-far : SoFar posts columns (heightsIn grid) out₀ out k at
   from-part : from ≡ 2 * (k * posts)
-  long : length out ≡ length out₀
   kept : length buffer ≡ length buffer₀
-  put : out ≡ pasted out₀ 0 (columnsWritten posts (heightsIn grid) k)
 
 abbrev Inv-loop : tie.InvT-loop
 Inv-loop out₀ buffer₀ columns posts grid width size k₀ at₀ from₀ out buffer k at from = Inv out₀ buffer₀ columns posts grid out buffer k at from
 
 abbrev μ-loop : tie.MeasureT-loop
 μ-loop out₀ buffer₀ columns posts grid width size k₀ at₀ from₀ out buffer k at from = columns - k
+
+-- there are as many heights as the columns have posts
+counted : (s : tie.Start Inv-loop μ-loop) → length (heightsIn (s .args .grid .now)) ≡ s .args .columns * s .args .posts
+counted s = length-heights (s .args .grid .now) (s .args .columns * s .args .posts) (s .pre .1 .0)
 
 -- the next column's bytes and those of its heights are there
 record Inside (out grid : List ℕ) (posts at from : ℕ) : Type 0 where
@@ -47,18 +46,13 @@ inside c =
     let a = l .before .before .before .args in
     let pre = l .before .before .before .pre in
     let i = l .loop .inv in
-    let bytes = part-within (l .loop .k) (a .columns) (12 + 2 * a .posts) (c .loop-test .taken) in
     let posts = part-within (l .loop .k) (a .columns) (a .posts) (c .loop-test .taken) in
     record {
-      bytes = omega (arith, i .at-part, i .long, pre .0, bytes);
+      bytes = next-there (a .posts) (a .columns) (heightsIn (a .grid .now)) (counted (l .before .before .before)) (a .out .now) (pre .0) (l .loop .out) (l .loop .k) (l .loop .at) (i .so-far) (c .loop-test .taken);
       there = omega (arith, i .from-part, pre .1 .0, posts);
-      out-small = omega (arith, i .long, pre .0, parts-small (a .columns) (12 + 2 * a .posts) (pre .1 .1 .1 .0) (omega (arith, pre .1 .1 .1 .1)));
+      out-small = omega (arith, i .so-far .long, pre .0, parts-small (a .columns) (12 + 2 * a .posts) (pre .1 .1 .1 .0) (omega (arith, pre .1 .1 .1 .1)));
       grid-small = omega (arith, pre .1 .0, parts-small (a .columns) (a .posts) (pre .1 .1 .1 .0) (omega (arith, pre .1 .1 .1 .1)));
     }
-
--- there are as many heights as the columns have posts
-counted : (s : tie.Start Inv-loop μ-loop) → length (heightsIn (s .args .grid .now)) ≡ s .args .columns * s .args .posts
-counted s = length-heights (s .args .grid .now) (s .args .columns * s .args .posts) (s .pre .1 .0)
 
 mul-width : tie.Need-mul-width Inv-loop μ-loop
 mul-width c = search needs
@@ -67,15 +61,9 @@ add-size : tie.Need-add-size Inv-loop μ-loop
 add-size c = search needs
 
 loop-holds : tie.Need-loop-holds Inv-loop μ-loop
-unfolding columnsWritten
-loop-holds c = record {
-  within = omega arith;
-  at-part = omega arith;
-  from-part = omega arith;
-  long = refl;
-  kept = refl;
-  put = sym (paste-none (c .before .before .args .out .now) 0);
-}
+loop-holds c =
+    let a = c .before .before .args in
+    record { so-far = none (a .posts) (a .columns) (heightsIn (a .grid .now)) (a .out .now); from-part = omega arith; kept = refl }
 
 add-next : tie.Need-add-next Inv-loop μ-loop
 add-next c = omega (arith, inside c)
@@ -127,25 +115,19 @@ loop-again c =
     let pre = l .before .before .before .pre in
     let i = l .loop .inv in
     let zs = heightsIn (a .grid .now) in
-    let all = counted (l .before .before .before) in
     let column : q .put-given .last .0 ≡ columnOf (l .loop .k) (take (l .loop .k * a .posts + a .posts - l .loop .k * a .posts) (drop (l .loop .k * a .posts) zs)) =
     q .put-given .ensures ∙ ap (columnOf (l .loop .k)) (heights-part (a .grid .now) (a .posts) (l .loop .k) (l .loop .from) (i .from-part))
     in
-    let put =
-    column-turn (a .posts) (a .columns) zs all (a .out .now) (l .loop .k) (t .loop-test .taken) (pre .0)
-    (l .loop .out) (l .loop .at) (l .loop .k * a .posts) (q .put-given .last .0) (i .put) (i .at-part) refl column
-    in
     record {
-      within = omega (arith, t .loop-test .taken);
-      at-part = omega (arith, i .at-part, next-part (l .loop .k) (12 + 2 * a .posts));
+      so-far =
+          next (a .posts) (a .columns) zs (counted (l .before .before .before)) (a .out .now) (pre .0) (l .loop .out) (l .loop .k) (l .loop .at) (i .so-far)
+          (t .loop-test .taken) (l .loop .k * a .posts) (q .put-given .last .0) refl column;
       from-part = omega (arith, i .from-part, next-part (l .loop .k) (a .posts));
-      long = ap length put ∙ length-paste (a .out .now) 0 _ (rw (pre .0) (columns-within (a .posts) (a .columns) zs all (l .loop .k + 1) (omega (arith, t .loop-test .taken))));
       kept = q .put-given .kept .1 .0 ∙ i .kept;
-      put = put;
     }
 
 same-length : tie.Need-same-length Inv-loop μ-loop
-same-length c = c .before .loop .inv .long
+same-length c = c .before .loop .inv .so-far .long
 
 same-length-2 : tie.Need-same-length-2 Inv-loop μ-loop
 same-length-2 c = c .before .loop .inv .kept
@@ -155,12 +137,8 @@ returns c =
     let l = c .before in
     let a = l .before .before .before .args in
     let pre = l .before .before .before .pre in
-    let i = l .loop .inv in
-    let zs = heightsIn (a .grid .now) in
-    let all : l .loop .k ≡ a .columns = omega (arith, i .within, c .loop-test .left) in
-    i .put ∙ ap (λ (k : ℕ). pasted (a .out .now) 0 (columnsWritten (a .posts) zs k)) all
-    ∙ paste-all (a .out .now) (columnsWritten (a .posts) zs (a .columns))
-    (length-columns (a .posts) (a .columns) zs (counted (l .before .before .before)) (a .columns) (omega arith) ∙ sym (pre .0))
+    every (a .posts) (a .columns) (heightsIn (a .grid .now)) (counted (l .before .before .before)) (a .out .now) (pre .0) (l .loop .out) (l .loop .k) (l .loop .at) (l .loop .inv .so-far)
+    (omega (arith, c .loop-test .left))
 
 pub put-columns-spec : {M : Type 1} → statement M
 put-columns-spec =

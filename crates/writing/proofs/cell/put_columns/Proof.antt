@@ -1,25 +1,20 @@
--- `put_columns`: what stands so far is a paste of the first columns.
+-- `put_columns`: after k turns the first k columns stand, and so many heights are used.
 use Prim.Native.Nat.{ℕ, _+_, _-_, _*_, _≤_}
-use Rattle.octets.proofs.PasteLaws.{paste-none, paste-all, length-paste, length-part}
-use Rattle.octets.specs.Pastes.{pasted}
-use Rattle.writing.proofs.ColumnParts.{length-columns, columns-within, column-turn}
+use Rattle.octets.proofs.PasteLaws.{length-part}
+use Rattle.writing.proofs.SoFar.{SoFar, none, next-there, next, every}
 use Rattle.writing.proofs.Joined.{next-part, part-within, parts-small}
 use Rattle.writing.proofs.cell.put_columns.Statement.{statement}
 use Rattle.writing.proofs.cell.put_columns.Tie as tie
-use Rattle.writing.specs.Grid.{columnsWritten}
 use borrow.Author.Needs.{needs}
 use lib.IntN.{ℤ}
 use lib.ListN.{length}
 use mathlib.Core.List.{List}
-use mathlib.Core.Path.{_≡_, refl, sym, ap, _∙_}
+use mathlib.Core.Path.{_≡_}
 use native.Mathlib.Omega.{arith}
 
 record Inv (out₀ : List ℕ) (columns posts : ℕ) (heights : List ℤ) (out : List ℕ) (k at from : ℕ) : Type 0 where
-  within : k ≤ columns
-  at-part : at ≡ k * (12 + 2 * posts)
+  so-far : SoFar posts columns heights out₀ out k at
   from-part : from ≡ k * posts
-  long : length out ≡ length out₀
-  put : out ≡ pasted out₀ 0 (columnsWritten posts heights k)
 
 abbrev Inv-loop : tie.InvT-loop
 Inv-loop out₀ columns posts heights size k₀ at₀ from₀ out k at from = Inv out₀ columns posts heights out k at from
@@ -43,12 +38,11 @@ inside c =
     let a = l .before .before .args in
     let pre = l .before .before .pre in
     let i = l .loop .inv in
-    let bytes = part-within (l .loop .k) (a .columns) (12 + 2 * a .posts) (c .loop-test .taken) in
     let posts = part-within (l .loop .k) (a .columns) (a .posts) (c .loop-test .taken) in
     record {
-      bytes = omega (arith, i .at-part, i .long, pre .0, bytes);
+      bytes = next-there (a .posts) (a .columns) (a .heights .now) (pre .1 .0) (a .out .now) (pre .0) (l .loop .out) (l .loop .k) (l .loop .at) (i .so-far) (c .loop-test .taken);
       there = omega (arith, i .from-part, pre .1 .0, posts);
-      out-small = omega (arith, i .long, pre .0, parts-small (a .columns) (12 + 2 * a .posts) (pre .1 .1 .0) (omega (arith, pre .1 .1 .1)));
+      out-small = omega (arith, i .so-far .long, pre .0, parts-small (a .columns) (12 + 2 * a .posts) (pre .1 .1 .0) (omega (arith, pre .1 .1 .1)));
       heights-small = omega (arith, pre .1 .0, parts-small (a .columns) (a .posts) (pre .1 .1 .0) (omega (arith, pre .1 .1 .1)));
     }
 
@@ -59,14 +53,9 @@ add-size : tie.Need-add-size Inv-loop μ-loop
 add-size c = search needs
 
 loop-holds : tie.Need-loop-holds Inv-loop μ-loop
-unfolding columnsWritten
-loop-holds c = record {
-  within = omega arith;
-  at-part = omega arith;
-  from-part = omega arith;
-  long = refl;
-  put = sym (paste-none (c .before .args .out .now) 0);
-}
+loop-holds c =
+    let a = c .before .args in
+    record { so-far = none (a .posts) (a .columns) (a .heights .now) (a .out .now); from-part = omega arith }
 
 add-next : tie.Need-add-next Inv-loop μ-loop
 add-next c = omega (arith, inside c)
@@ -120,31 +109,23 @@ loop-again c =
     let a = l .before .before .args in
     let pre = l .before .before .pre in
     let i = l .loop .inv in
-    let put =
-    column-turn (a .posts) (a .columns) (a .heights .now) (pre .1 .0) (a .out .now) (l .loop .k) (t .loop-test .taken) (pre .0)
-    (l .loop .out) (l .loop .at) (l .loop .from) (q .put-column .last .0) (i .put) (i .at-part) (i .from-part) (q .put-column .ensures)
-    in
     record {
-      within = omega (arith, t .loop-test .taken);
-      at-part = omega (arith, i .at-part, next-part (l .loop .k) (12 + 2 * a .posts));
+      so-far =
+          next (a .posts) (a .columns) (a .heights .now) (pre .1 .0) (a .out .now) (pre .0) (l .loop .out) (l .loop .k) (l .loop .at) (i .so-far)
+          (t .loop-test .taken) (l .loop .from) (q .put-column .last .0) (i .from-part) (q .put-column .ensures);
       from-part = omega (arith, i .from-part, next-part (l .loop .k) (a .posts));
-      long = ap length put ∙ length-paste (a .out .now) 0 _ (rw (pre .0) (columns-within (a .posts) (a .columns) (a .heights .now) (pre .1 .0) (l .loop .k + 1) (omega (arith, t .loop-test .taken))));
-      put = put;
     }
 
 same-length : tie.Need-same-length Inv-loop μ-loop
-same-length c = c .before .loop .inv .long
+same-length c = c .before .loop .inv .so-far .long
 
 returns : tie.Need-returns Inv-loop μ-loop
 returns c =
     let l = c .before in
     let a = l .before .before .args in
     let pre = l .before .before .pre in
-    let i = l .loop .inv in
-    let all : l .loop .k ≡ a .columns = omega (arith, i .within, c .loop-test .left) in
-    i .put ∙ ap (λ (k : ℕ). pasted (a .out .now) 0 (columnsWritten (a .posts) (a .heights .now) k)) all
-    ∙ paste-all (a .out .now) (columnsWritten (a .posts) (a .heights .now) (a .columns))
-    (length-columns (a .posts) (a .columns) (a .heights .now) (pre .1 .0) (a .columns) (omega arith) ∙ sym (pre .0))
+    every (a .posts) (a .columns) (a .heights .now) (pre .1 .0) (a .out .now) (pre .0) (l .loop .out) (l .loop .k) (l .loop .at) (l .loop .inv .so-far)
+    (omega (arith, c .loop-test .left))
 
 pub put-columns-spec : {M : Type 1} → statement M
 put-columns-spec =
