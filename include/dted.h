@@ -6,7 +6,8 @@
  * LENT BYTES. Bytes are lent as a pointer and a length. Where the length is 0 the pointer may be null. `items` is a fixed
  * array of DTED_ITEMS numbers and must not be null. The pieces of memory that one call is lent must not overlap. Calls may
  * run at the same time on any threads, as long as none writes what another is lent: one cell must not be edited by two
- * threads at once, nor read while it is edited.
+ * threads at once, nor read while it is edited. Bytes may stand at any address; `items` is aligned as int64_t is. A call needs
+ * less than 16 KB of stack. The header is for C99 and C++; of the C library the archive needs memset alone.
  *
  * ANSWERS. A call answers one 64-bit number: the refusal's number in the top 8 bits, 0 where the call was not refused, and
  * its place, or the call's value, in the low 56. Values have 16 bits each, from bit 0 up: posts, columns and level; a height in
@@ -33,17 +34,18 @@ enum {
     DTED_CHECKSUM = 5,    /* a checksum differs: its offset */
     DTED_WORD = 6,        /* a post word is not allowed: its offset */
     DTED_SURPLUS = 7,     /* bytes after the last column: the cell length due */
-    DTED_OFF_GRID = 8,    /* an index or a position is off the grid: 0 */
+    DTED_OFF_GRID = 8,    /* a column, a post or a position is off the grid: 0 */
     DTED_ITEM = 9,        /* an item is out of its range: its number, from 1, so one more than its index below */
     DTED_GRID_LENGTH = 10, /* the grid's length differs: the number of posts due */
-    DTED_HEIGHT = 11,     /* a height or void is not allowed: its index in the grid; 0 for an edit */
+    DTED_HEIGHT = 11,     /* a height or void is not allowed: its index in the grid or the posts given; 0 for an edit */
     DTED_ROOM = 12        /* the output is too short: the length due */
 };
 
-/* A post without a height, as heights are given and answered: -32767. */
+/* Heights are metres, -12,000 to 9,000. A post without a height is this, which a cell may hold where its DTED_PARTIAL is not 0. */
 #define DTED_VOID (-32767)
 
-/* Bytes before the first column, before the first post of a column, and of the longest column and cell. */
+/* Bytes before the first column, before the first post of a column, and of the longest column and cell. Whoever reads a file into
+ * a buffer makes it a byte longer than the longest cell, so that DTED_SURPLUS can be seen. */
 #define DTED_HEADER_BYTES 3428
 #define DTED_PREAMBLE_BYTES 8
 #define DTED_LONGEST_COLUMN 7214
@@ -116,6 +118,11 @@ uint64_t dted_write_column(uint8_t *out, size_t room, uint64_t level, uint64_t n
 }
 #endif
 
+#if defined(__cplusplus) && defined(__GNUC__)
+#pragma GCC diagnostic push
+#pragma GCC diagnostic ignored "-Wold-style-cast"
+#endif
+
 /* ---- answers, taken apart ---- */
 
 /* The refusal's number, DTED_OK where there is none. */
@@ -165,5 +172,9 @@ static inline void dted_put_height(uint8_t *bytes, int height) {
     bytes[0] = (uint8_t)((unsigned)height >> 8 & 0xFF);
     bytes[1] = (uint8_t)((unsigned)height & 0xFF);
 }
+
+#if defined(__cplusplus) && defined(__GNUC__)
+#pragma GCC diagnostic pop
+#endif
 
 #endif

@@ -1,4 +1,4 @@
--- The items of a description as numbers, as a C host gives and gets them (rules W2 and B1): item n at index n - 1.
+-- The items of a description as numbers, as a C host gives and gets them (rules W2 and B3): item n at index n - 1.
 use Prim.Native.Nat.{ℕ, _+_}
 use mathlib.Core.Bool.{Bool}
 use mathlib.Core.List.{List, [], _∷_}

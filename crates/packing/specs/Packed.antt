@@ -1,4 +1,4 @@
--- An answer as one number of 64 bits (rule B1): a refusal's number in the top 8 bits and its place in the other 56, or the values.
+-- An answer as one number of 64 bits (rule B4): a refusal's number in the top 8 bits and its place in the other 56, or the values.
 use Prim.Native.Nat.{ℕ, _+_, _-_, _*_, _%_}
 use lib.IntN.{ℤ, pos, negsuc, negℤ}
 use Rattle.answers.specs.Told.{Told, refused, more, accepted, height, void, heightAt, voidAt, done}
@@ -16,7 +16,7 @@ three a b c = a % 65536 * 4294967296 + b % 65536 * 65536 + c % 65536
 abbrev pub refusal : ℕ → ℕ → ℕ
 refusal number place = number % 256 * 72057594037927936 + place % 72057594037927936
 
--- B1: level, columns and posts; a height, void being -32767; column, post and height; or nothing
+-- B4: level, columns and posts; a height, void being -32767; column, post and height; or nothing
 unfoldable pub packed : Told → ℕ
 packed (refused number place) = refusal number place
 packed more = 0
