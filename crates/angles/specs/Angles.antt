@@ -35,7 +35,7 @@ letterIn f t = getD t (f .digits + length (f .zeros)) 0
 abbrev pub isAngle : Form → List ℕ → Bool
 isAngle f t = both (digitsAt t 0 (f .digits)) (has t (f .digits) (f .zeros))
 
--- an origin: E 000 to 179 or W 001 to 180, N 000 to 089 or S 001 to 090
+-- H2, H3, H43: an origin: E 000 to 179 or W 001 to 180, N 000 to 089 or S 001 to 090
 abbrev pub isOrigin : Axis → ℕ → ℕ → Bool
 isOrigin a degrees letter =
     either (both (eqb letter (a .plus)) (ltb degrees (a .most)))
@@ -56,7 +56,7 @@ letterOf a angle = pick (leb (a .most) angle) (a .plus) (a .minus)
 abbrev pub isSame : Axis → ℕ → ℕ → ℕ → Bool
 isSame a angle degrees letter = both (eqb degrees (degreesOf a angle)) (eqb letter (letterOf a angle))
 
--- at 0 degrees, and at longitude 180, a corner may carry either letter
+-- H42: at 0 degrees, and at longitude 180, a corner may carry either letter
 abbrev pub eitherLetter : Axis → ℕ → Bool
 eitherLetter a degrees = either (eqb degrees 0) (both (eqb (a .most) 180) (eqb degrees 180))
 

@@ -15,7 +15,7 @@ use Rattle.octets.proofs.TestLaws.{below}
 use Rattle.fields.specs.Table.{fields, fieldAt}
 use Rattle.composing.specs.Written.{textFor, withFields, areas, withAreas}
 use Rattle.describing.specs.declared.Description.{Description}
-use Rattle.fields.specs.declared.Area.{Area}
+use Rattle.composing.specs.declared.Area.{Area}
 use Rattle.fields.specs.declared.Field.{Field}
 use Rattle.composing.proofs.TextWidths.{length-text}
 use Rattle.headers.proofs.TableRows.{Row, row}

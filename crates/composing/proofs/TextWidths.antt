@@ -6,7 +6,8 @@ use lib.ListN.{length, length-append}
 use Rattle.octets.proofs.DigitLaws.{length-digits}
 use Rattle.angles.specs.Angles.{Form, degreesOf}
 use Rattle.rules.specs.Rules.{numberOf, formOf, widthOf}
-use Rattle.describing.specs.Facts.{dueFor, accuracyFor}
+use Rattle.describing.specs.Items.{accuracyFor}
+use Rattle.describing.specs.Facts.{dueFor}
 use Rattle.composing.specs.Written.{axisOf, angleFor, angleText, accuracyText, datumText, textFor}
 use Rattle.describing.specs.declared.Accuracy.{Accuracy}
 use Rattle.describing.specs.declared.Accuracy.the-variants.{Metres, Unknown}

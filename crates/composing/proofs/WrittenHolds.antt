@@ -20,8 +20,8 @@ use Rattle.layout.specs.declared.Grid.{Grid}
 use Rattle.layout.proofs.Ranges.{Ranged, ranged}
 use Rattle.angles.specs.Angles.{northward, eastward, degreesIn, letterIn, degreesOf, letterOf, edgeOf}
 use Rattle.rules.specs.Rules.{textOf, numberOf, isNumber, formOf, mayCarry, angleHolds, isAccuracy, isLevel, isSecurity, isEdition, isVertical, holds}
-use Rattle.describing.specs.Items.{inRange}
-use Rattle.describing.specs.Facts.{dueFor, accuracyFor}
+use Rattle.describing.specs.Items.{inRange, accuracyFor}
+use Rattle.describing.specs.Facts.{dueFor}
 use Rattle.composing.specs.Written.{axisOf, angleFor, angleText, accuracyText, datumText, textFor}
 use Rattle.describing.specs.declared.Accuracy.{Accuracy}
 use Rattle.describing.specs.declared.Accuracy.the-variants.{Metres, Unknown}

@@ -17,7 +17,7 @@ use Rattle.layout.specs.Grid.{headerBytes}
 use Rattle.fields.specs.Table.{bytesIn, fieldAt}
 use Rattle.composing.specs.Written.{areas, withAreas, textFor, freeBytes, headersFor}
 use Rattle.describing.specs.declared.Description.{Description}
-use Rattle.fields.specs.declared.Area.{Area}
+use Rattle.composing.specs.declared.Area.{Area}
 use Rattle.composing.proofs.FieldsApart.{length-fields, field-shown}
 
 -- every area lies in the first 785 bytes

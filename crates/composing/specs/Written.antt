@@ -9,7 +9,8 @@ use Rattle.layout.specs.Grid.{headerBytes}
 use Rattle.angles.specs.Angles.{Form, northward, eastward, degreesOf, letterOf}
 use Rattle.rules.specs.Rules.{textOf, numberOf, formOf}
 use Rattle.fields.specs.Table.{fields}
-use Rattle.describing.specs.Facts.{dueFor, accuracyFor}
+use Rattle.describing.specs.Items.{accuracyFor}
+use Rattle.describing.specs.Facts.{dueFor}
 use Rattle.describing.specs.declared.Accuracy.{Accuracy}
 use Rattle.describing.specs.declared.Accuracy.the-variants.{Metres, Unknown}
 use Rattle.describing.specs.declared.Datum.{Datum}
@@ -21,7 +22,7 @@ use Rattle.fields.specs.declared.Angle.{Angle}
 use Rattle.fields.specs.declared.Angle.the-variants as angle
 use Rattle.fields.specs.declared.Kind.{Kind}
 use Rattle.fields.specs.declared.Kind.the-variants as kind
-use Rattle.fields.specs.declared.Area.{Area}
+use Rattle.composing.specs.declared.Area.{Area}
 use Rattle.fields.specs.declared.Field.{Field}
 
 -- the angle of a field; an eastern edge at 180 is 180 E, a western one 180 W, and 0 is N and E

@@ -1,6 +1,6 @@
 // Putting one field: a text, a number in digits, an angle, an accuracy, by the field's kind.
 ghost use mathlib.Core.Path.{_≡_};
-ghost use mathlib.Core.List.{[], _∷_, _++_};
+ghost use mathlib.Core.List.{_∷_, _++_};
 ghost use Prim.Native.Nat.{suc, _+_, _<_};
 ghost use lib.ListN.{length};
 ghost use Rattle.octets.specs.Digits.{digitsOf};

@@ -38,14 +38,12 @@ use Rattle.reaching.specs.Lookup.{postReads, readingOf, lookedUp}
 use Rattle.reaching.specs.Reach.{reached}
 use Rattle.reaching.specs.declared.reach.Reached.{Reached}
 use Rattle.reaching.specs.declared.reach.Reached.the-variants as reach
-use Rattle.reaching.proofs.ReachedExactly as reading
+use Rattle.reaching.proofs.ReachedExactly as exactly
 use Rattle.locating.specs.Position.{nearestColumn, nearestPost, saidAt, readAt, located}
 use Rattle.locating.proofs.PositionExactly as position
-use Rattle.streaming.specs.Column.{columnTold}
 use Rattle.writing.proofs.Joined.{part-within}
 use Rattle.streaming.proofs.GivenExactly.{GivenRow, differs, not-held, no-room, fine}
 use Rattle.streaming.proofs.NumberExactly.{NumberRow, level-past, number-past, then-rest}
-use Rattle.streaming.proofs.ColumnExactly as column
 use Rattle.editing.specs.Edit.{judgedEdit, editTold}
 use Rattle.editing.proofs.EditExactly as editing
 use Rattle.reading.specs.Intake.{orRest, judgeNext, ended, columnsFrom, takenBy, taken}
@@ -141,38 +139,38 @@ module _ (s : List ℕ) (c p : ℕ) where
   follows-ranged : Follows s → Ranged (factsIn s .grid)
   follows-ranged h = good-facts s (factsIn s) (follows-good s h) .grid
 
-  refused-fits : (x : Reached) → reading.Row s c p x → (r : Refusal) → x ≡ reach.Refused r → Fits (numbered r)
-  refused-fits _ (reading.bad-headers r e) q same = let t : r ≡ q = cc in subst (λ (y : Refusal). Fits (numbered y)) t (headers-fit s r e)
-  refused-fits _ (reading.off h away) q same = let t : because.OffGrid ≡ q = cc in subst (λ (y : Refusal). Fits (numbered y)) t (lit< tt, lit< tt)
-  refused-fits _ (reading.cut o cut-off) q same =
+  refused-fits : (x : Reached) → exactly.Row s c p x → (r : Refusal) → x ≡ reach.Refused r → Fits (numbered r)
+  refused-fits _ (exactly.bad-headers r e) q same = let t : r ≡ q = cc in subst (λ (y : Refusal). Fits (numbered y)) t (headers-fit s r e)
+  refused-fits _ (exactly.off h away) q same = let t : because.OffGrid ≡ q = cc in subst (λ (y : Refusal). Fits (numbered y)) t (lit< tt, lit< tt)
+  refused-fits _ (exactly.cut o cut-off) q same =
       let t : because.Cut (startOf (factsIn s .grid) c) ≡ q = cc in
       subst (λ (y : Refusal). Fits (numbered y)) t
       (lit< tt, omega (arith, end-small s (factsIn s .grid) true (follows-ranged (o .headers)) c (o .column)))
-  refused-fits _ (reading.column o whole r e) q same =
+  refused-fits _ (exactly.column o whole r e) q same =
       let t : r ≡ q = cc in
       let g = follows-ranged (o .headers) in
       subst (λ (y : Refusal). Fits (numbered y)) t
       (column-fits _ c (factsIn s .grid .posts) (voidsAllowed (factsIn s)) (startOf (factsIn s .grid) c)
       (omega (arith, end-small s (factsIn s .grid) true g c (o .column), g .column)) r e)
-  refused-fits _ (reading.good o whole g) q same = let z : _≡_ {A = ℕ} 0 1 = cc in absurd (omega arith)
+  refused-fits _ (exactly.good o whole g) q same = let z : _≡_ {A = ℕ} 0 1 = cc in absurd (omega arith)
 
-  post-fits-by : (x : Reached) → reading.Row s c p x → Fits (told telling.post (readingOf x))
-  post-fits-by _ (reading.bad-headers r e) = refused-fits _ (reading.bad-headers r e) r refl
-  post-fits-by _ (reading.off h away) = refused-fits _ (reading.off h away) because.OffGrid refl
-  post-fits-by _ (reading.cut o cut-off) = refused-fits _ (reading.cut o cut-off) _ refl
-  post-fits-by _ (reading.column o whole r e) = refused-fits _ (reading.column o whole r e) r refl
-  post-fits-by _ (reading.good o whole g) = said-fits (postOf (wordIn (columnAt s (factsIn s .grid) c) p))
+  post-fits-by : (x : Reached) → exactly.Row s c p x → Fits (told telling.post (readingOf x))
+  post-fits-by _ (exactly.bad-headers r e) = refused-fits _ (exactly.bad-headers r e) r refl
+  post-fits-by _ (exactly.off h away) = refused-fits _ (exactly.off h away) because.OffGrid refl
+  post-fits-by _ (exactly.cut o cut-off) = refused-fits _ (exactly.cut o cut-off) _ refl
+  post-fits-by _ (exactly.column o whole r e) = refused-fits _ (exactly.column o whole r e) r refl
+  post-fits-by _ (exactly.good o whole g) = said-fits (postOf (wordIn (columnAt s (factsIn s .grid) c) p))
     where
       said-fits : (x : Post) → Fits (told telling.post (postReads x))
       said-fits (post.Height z) = tt
       said-fits post.Void = tt
 
-  near-fits-by : (x : Reached) → reading.Row s c p x → Fits (readAt c p x)
-  near-fits-by _ (reading.bad-headers r e) = refused-fits _ (reading.bad-headers r e) r refl
-  near-fits-by _ (reading.off h away) = refused-fits _ (reading.off h away) because.OffGrid refl
-  near-fits-by _ (reading.cut o cut-off) = refused-fits _ (reading.cut o cut-off) _ refl
-  near-fits-by _ (reading.column o whole r e) = refused-fits _ (reading.column o whole r e) r refl
-  near-fits-by _ (reading.good o whole g) = said-fits (postOf (wordIn (columnAt s (factsIn s .grid) c) p))
+  near-fits-by : (x : Reached) → exactly.Row s c p x → Fits (readAt c p x)
+  near-fits-by _ (exactly.bad-headers r e) = refused-fits _ (exactly.bad-headers r e) r refl
+  near-fits-by _ (exactly.off h away) = refused-fits _ (exactly.off h away) because.OffGrid refl
+  near-fits-by _ (exactly.cut o cut-off) = refused-fits _ (exactly.cut o cut-off) _ refl
+  near-fits-by _ (exactly.column o whole r e) = refused-fits _ (exactly.column o whole r e) r refl
+  near-fits-by _ (exactly.good o whole g) = said-fits (postOf (wordIn (columnAt s (factsIn s .grid) c) p))
     where
       small : (c < 65536) × (p < 65536)
       small =
@@ -186,14 +184,14 @@ module _ (s : List ℕ) (c p : ℕ) where
 -- post lookup
 pub post-fits : (s : List ℕ) (c p : ℕ) → Fits (lookedUp s c p)
 unfolding lookedUp
-post-fits s c p = post-fits-by s c p (reached s c p) (reading.row s c p)
+post-fits s c p = post-fits-by s c p (reached s c p) (exactly.row s c p)
 
 -- position lookup
 position-by : (s : List ℕ) (latitude longitude : ℤ) (t : Told) → position.Row s latitude longitude t → Fits t
 position-by s latitude longitude _ (position.bad-headers r e) = headers-fit s r e
 position-by s latitude longitude _ (position.off f j e) = (lit< tt, lit< tt)
 position-by s latitude longitude _ (position.near f j k e) =
-    near-fits-by s (nearestColumn f k) (nearestPost f k) (reached s (nearestColumn f k) (nearestPost f k)) (reading.row s (nearestColumn f k) (nearestPost f k))
+    near-fits-by s (nearestColumn f k) (nearestPost f k) (reached s (nearestColumn f k) (nearestPost f k)) (exactly.row s (nearestColumn f k) (nearestPost f k))
 
 pub position-fits : (s : List ℕ) (latitude longitude : ℤ) → Fits (located s latitude longitude)
 position-fits s latitude longitude = position-by s latitude longitude (located s latitude longitude) (position.row s latitude longitude)
@@ -226,8 +224,3 @@ number-fits level number Rest f _ (number-past h u) = (lit< tt, lit< tt)
 number-fits level number Rest f x (then-rest _ h u r) =
     let g = ranged level 0 h (lit< tt) in
     f (omega (arith, g .posts-high)) (omega (arith, g .posts-high)) x r
-
-pub write-column-fits : (level number : ℕ) (zs : List ℤ) (out : List ℕ) → Fits (columnTold level number zs out)
-unfolding columnTold
-write-column-fits level number zs out =
-    number-fits level number _ (given-fits (postsOf level) (columnBytes (postsOf level)) true zs (length out)) _ (column.row level number zs (length out))

@@ -14,8 +14,7 @@ use Rattle.octets.specs.Tests.{every}
 use Rattle.octets.proofs.TestLaws.{each-true}
 use Rattle.octets.proofs.ChoiceLaws.{both-true}
 use Rattle.rules.specs.Rules.{isLetter, isVersion}
-use Rattle.describing.specs.Items.{accuracyRanged, itemTests, firstFailed, badItem, inRange}
-use Rattle.describing.specs.Facts.{accuracyFor}
+use Rattle.describing.specs.Items.{accuracyRanged, itemTests, firstFailed, badItem, inRange, accuracyFor}
 use Rattle.describing.specs.declared.Description.{Description}
 use Rattle.fields.specs.declared.Whose.{Whose}
 use Rattle.fields.specs.declared.Whose.the-variants as whose

@@ -9,6 +9,8 @@ use Rattle.rules.specs.Rules.{isLetter, isVersion}
 use Rattle.describing.specs.declared.Accuracy.{Accuracy}
 use Rattle.describing.specs.declared.Accuracy.the-variants.{Metres, Unknown}
 use Rattle.describing.specs.declared.Description.{Description}
+use Rattle.fields.specs.declared.Whose.{Whose}
+use Rattle.fields.specs.declared.Whose.the-variants as whose
 
 abbrev pub accuracyRanged : Accuracy → Bool
 accuracyRanged (Metres m) = leb m 9999
@@ -43,3 +45,11 @@ badItem d = firstFailed 1 (itemTests d)
 
 abbrev pub inRange : Description → Bool
 inRange d = every (itemTests d)
+
+-- the accuracy that a field holds
+abbrev pub accuracyFor : Whose → Description → Accuracy
+accuracyFor whose.Uhl d = d .uhl
+accuracyFor whose.AbsoluteHorizontal d = d .absolute .horizontal
+accuracyFor whose.AbsoluteVertical d = d .absolute .vertical
+accuracyFor whose.RelativeHorizontal d = d .relative .horizontal
+accuracyFor whose.RelativeVertical d = d .relative .vertical

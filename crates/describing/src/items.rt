@@ -1,7 +1,6 @@
 // The items of a description, each in its range.
 ghost use mathlib.Core.Path.{_≡_};
-ghost use Rattle.describing.specs.Items.{accuracyRanged, itemTests, firstFailed, badItem};
-ghost use Rattle.describing.specs.Facts.{accuracyFor};
+ghost use Rattle.describing.specs.Items.{accuracyRanged, itemTests, firstFailed, badItem, accuracyFor};
 use crate::Accuracy;
 use crate::Description;
 use fields::Whose;

@@ -1,4 +1,4 @@
-// The description of a cell: the thirteen items that its headers say, read from them and ranged.
+// The description of a cell: the thirteen items that its headers say, read from them and ranged, and what they make due.
 use answers::Refusal;
 
 pub mod describe;
@@ -22,7 +22,7 @@ pub enum Datum {
     E96,
 }
 
-// The thirteen items of a cell: what its headers say beyond what is fixed. Angles are counted as in `rules`.
+// The thirteen items of a cell: what its headers say beyond what is fixed. Angles are counted as in `angles`.
 pub struct Description {
     pub level: usize,
     pub latitude: usize,

@@ -1,1 +1,1 @@
--- The laws of the C calls.
+-- The proofs of the C calls.

@@ -18,31 +18,31 @@ use Rattle.reading.specs.Cell.{columnAt}
 use Rattle.reaching.specs.Reach.{spotIn, reached}
 use Rattle.reaching.specs.declared.reach.Reached.{Reached}
 use Rattle.reaching.specs.declared.reach.Reached.the-variants as reach
-use Rattle.reaching.proofs.ReachedExactly as reading
+use Rattle.reaching.proofs.ReachedExactly as exactly
 use Rattle.editing.specs.Edit.{judgedEdit, storedIn, edited}
 use Rattle.editing.proofs.EditBy.{not-reached, height-refused, height-stored}
 
 -- the headers follow, the post is on their grid, and its column is there whole and good
 pub record Reachable (s : List ℕ) (c p : ℕ) : Type 0 where
-  pub on : reading.OnGrid s c p
-  pub whole : reading.endIn s c ≤ length s
+  pub on : exactly.OnGrid s c p
+  pub whole : exactly.endIn s c ≤ length s
   pub column : GoodColumn (columnAt s (factsIn s .grid) c) c (factsIn s .grid .posts) (voidsAllowed (factsIn s))
 
 -- the rows in the call's order, each where it holds and none before it does
 pub data EditRow (s : List ℕ) (c p : ℕ) (z : ℤ) : Outcome → Type 0 where
   -- 1, 2, 8, 3, 4, 5 and 6: as the post is reached
-  reaching : (r : Refusal) → reading.Row s c p (reach.Refused r) → EditRow s c p z (Refused r)
+  reaching : (r : Refusal) → exactly.Row s c p (reach.Refused r) → EditRow s c p z (Refused r)
   -- 11
   height : Reachable s c p → heightAllowed (voidsAllowed (factsIn s)) z ≡ false → EditRow s c p z (Refused (Height 0))
   done : Reachable s c p → heightAllowed (voidsAllowed (factsIn s)) z ≡ true → EditRow s c p z Done
 
 module _ (s : List ℕ) (c p : ℕ) (z : ℤ) where
   reaches : Reachable s c p → reached s c p ≡ reach.At (spotIn s (factsIn s) c p)
-  reaches r = reading.given s c p _ (reading.good (r .on) (r .whole) (r .column))
+  reaches r = exactly.given s c p _ (exactly.good (r .on) (r .whole) (r .column))
 
   -- every row's answer is given
   pub given : (x : Outcome) → EditRow s c p z x → judgedEdit s c p z ≡ x
-  given _ (reaching r row) = not-reached s c p z r (reading.given s c p _ row) .0
+  given _ (reaching r row) = not-reached s c p z r (exactly.given s c p _ row) .0
   given _ (height r no-height) = height-refused s c p z (spotIn s (factsIn s) c p) (reaches r) no-height .0
   given _ (done r allowed) = height-stored s c p z (spotIn s (factsIn s) c p) (reaches r) allowed .0
 
@@ -52,26 +52,26 @@ module _ (s : List ℕ) (c p : ℕ) (z : ℤ) where
   leftBy (Refused r) = s
 
   leaves : (x : Outcome) → EditRow s c p z x → edited s c p z ≡ leftBy x
-  leaves _ (reaching r row) = not-reached s c p z r (reading.given s c p _ row) .1
+  leaves _ (reaching r row) = not-reached s c p z r (exactly.given s c p _ row) .1
   leaves _ (height r no-height) = height-refused s c p z (spotIn s (factsIn s) c p) (reaches r) no-height .1
   leaves _ (done r allowed) = height-stored s c p z (spotIn s (factsIn s) c p) (reaches r) allowed .1
 
   abbrev Some : Type 0
   Some = (y : Outcome) × EditRow s c p z y
 
-  by-reached : (x : Reached) → reading.Row s c p x → Some
-  by-reached _ (reading.bad-headers r e) = (Refused r, reaching r (reading.bad-headers r e))
-  by-reached _ (reading.off h away) = (_, reaching _ (reading.off h away))
-  by-reached _ (reading.cut o short) = (_, reaching _ (reading.cut o short))
-  by-reached _ (reading.column o whole r e) = (Refused r, reaching r (reading.column o whole r e))
-  by-reached _ (reading.good o whole g) =
+  by-reached : (x : Reached) → exactly.Row s c p x → Some
+  by-reached _ (exactly.bad-headers r e) = (Refused r, reaching r (exactly.bad-headers r e))
+  by-reached _ (exactly.off h away) = (_, reaching _ (exactly.off h away))
+  by-reached _ (exactly.cut o short) = (_, reaching _ (exactly.cut o short))
+  by-reached _ (exactly.column o whole r e) = (Refused r, reaching r (exactly.column o whole r e))
+  by-reached _ (exactly.good o whole g) =
       let r : Reachable s c p = record { on = o; whole = whole; column = g } in
       by-test (heightAllowed (voidsAllowed (factsIn s)) z) (λ a. (Done, done r a)) (λ a. (Refused (Height 0), height r a))
 
   -- and every answer is a row's
   pub row : EditRow s c p z (judgedEdit s c p z)
   row =
-      let some = by-reached (reached s c p) (reading.row s c p) in
+      let some = by-reached (reached s c p) (exactly.row s c p) in
       subst (EditRow s c p z) (sym (given (some .0) (some .1))) (some .1)
 
   done-only : (x : Outcome) → EditRow s c p z x → x ≡ Done → Reachable s c p × (heightAllowed (voidsAllowed (factsIn s)) z ≡ true)

@@ -1,2 +1,2 @@
--- The proofs of the functions that read the table.
+-- The proofs of the functions that read the tables.
 mod Records

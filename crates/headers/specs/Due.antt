@@ -1,5 +1,5 @@
--- What the first four fields fix: the level, the origin, and through the level and zone table the grid.
-use Prim.Native.Nat.{ℕ, _-_}
+-- What is due in later fields: the level and the origin of H2 to H4, through the level and zone table the grid, and the letter of H7.
+use Prim.Native.Nat.{ℕ}
 use mathlib.Core.List.{List}
 use lib.ListN.{getD, take, drop}
 use Rattle.octets.specs.Choice.{pick}

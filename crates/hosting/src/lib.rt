@@ -1,3 +1,3 @@
-// What a C host's writers stand on: both writers over items as numbers and heights in bytes.
+// The writers for a C host: a cell from items as numbers, or one column, with heights in bytes.
 pub mod cell;
 pub mod column;

@@ -1,4 +1,4 @@
--- What is derived agrees with the published tables (rule Z4).
+-- What is derived agrees with the published tables (rules Z2 to Z4 and G1 to G5).
 use mathlib.Core.Path.{_≡_, refl, sym, subst}
 use mathlib.Core.Bool.{Bool, true}
 use Prim.Native.Nat.{ℕ, _+_, _-_, _*_, _<_, _≤_}

@@ -1,4 +1,4 @@
--- The published tables of levels and zones, as they stand in the scope document (rule Z4).
+-- The published tables of levels and zones, as they stand in the scope document (rules Z2 to Z4 and G1 to G5).
 use Prim.Native.Nat.{ℕ, _+_, _-_, _*_}
 use mathlib.Core.Bool.{Bool}
 use mathlib.Core.List.{List, [], _∷_}
@@ -47,7 +47,7 @@ zoneAt i = getD zones i (zone 0 0 0 [])
 abbrev pub levelAt : ℕ → Level
 levelAt l = getD levels l (level 0 0 0)
 
--- Z4: what is derived for a level is what its row says
+-- G1 to G3: what is derived for a level is what its row says
 abbrev pub levelTests : ℕ → List Bool
 levelTests l =
     eqb (latitudeInterval l) (levelAt l .interval)
@@ -55,7 +55,7 @@ levelTests l =
     ∷ eqb (columnBytes (postsOf l)) (levelAt l .bytes)
     ∷ []
 
--- Z4: what is derived for a level and a near edge is what the zone's row says
+-- Z3, Z4, G4, G5: what is derived for a level and a near edge is what the zone's row says
 abbrev pub zoneTests : Zone → ℕ → ℕ → List Bool
 zoneTests z edge l =
     eqb (factorOf edge) (z .factor)
@@ -63,10 +63,10 @@ zoneTests z edge l =
     ∷ eqb (columnsOf l edge) (getD (z .columns) l 0)
     ∷ []
 
--- Z4: so at every near edge of a zone, and every level
+-- Z2: so at every near edge of a zone, and every level
 abbrev pub zoneAgrees : Zone → Bool
 zoneAgrees z = allBelow (λ (k : ℕ). allBelow (λ (l : ℕ). every (zoneTests z (z .first + k) l)) 3) (z .last + 1 - z .first)
 
--- Z4: so for every level and every zone
+-- so for every level and every zone
 unfoldable pub tablesAgree : Bool
 tablesAgree = both (allBelow (λ (l : ℕ). every (levelTests l)) 3) (allBelow (λ (i : ℕ). zoneAgrees (zoneAt i)) 5)

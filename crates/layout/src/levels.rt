@@ -1,6 +1,5 @@
 // The level's own numbers.
 ghost use mathlib.Core.Path.{_≡_};
-ghost use Prim.Native.Nat.{_<_, _≤_};
 ghost use Rattle.layout.specs.Levels.{latitudeInterval};
 
 // Tenths of an arc-second between two posts of a column, at levels 0, 1 and 2.

@@ -1,6 +1,5 @@
 // Latitude zones: the near edge of a cell, and the zone's factor.
 ghost use mathlib.Core.Path.{_≡_};
-ghost use Prim.Native.Nat.{_<_, _≤_};
 ghost use Rattle.layout.specs.Zones.{nearEdge, factorOf};
 
 // Zones I to V: each ends before its bound, and its longitude interval is so many latitude intervals.

@@ -22,7 +22,7 @@ use Rattle.describing.specs.declared.Datum.the-variants.{Msl, E96}
 use Rattle.describing.specs.declared.Description.{Description}
 use Rattle.describing.proofs.RangedItems.{Lowest, first-exactly, ranged-items}
 use Rattle.numbering.specs.Items as items
-use Rattle.posts.specs.Words.{between}
+use Rattle.octets.specs.Ranges.{between}
 use Rattle.numbering.specs.Items.{item, isAccuracy, numberTests, badNumber, counted, datumFor, descriptionOf, datumNumber, accuracyNumber, numbersOf}
 use Rattle.numbering.proofs.NumberRanges.{ranged, Angled, angled, letters, versions, passes-counted, difference-back, difference-between}
 use Rattle.numbering.proofs.RangedNumbers.{ranged-numbers}

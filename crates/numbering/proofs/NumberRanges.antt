@@ -12,8 +12,8 @@ use mir.Facts.{toZ-ofZ}
 use borrow.Author.Tests.{leb-true, lt-ltb, le-ltb, le-leb, lt-leb, ne-eqb}
 use Rattle.octets.proofs.ChoiceLaws.{both-true, clash, by-order}
 use Rattle.rules.specs.Rules.{isLetter, isVersion}
-use Rattle.posts.proofs.Signed.{NotBelow}
-use Rattle.posts.specs.Words.{between}
+use Rattle.octets.proofs.Signed.{NotBelow}
+use Rattle.octets.specs.Ranges.{between}
 use Rattle.numbering.specs.Items.{isAccuracy, counted}
 
 -- a number between two that are not below 0

@@ -8,7 +8,7 @@ use lib.ListN.{getD}
 use Rattle.octets.proofs.TestLaws.{each-true}
 use Rattle.rules.specs.Rules.{isLetter, isVersion}
 use Rattle.describing.proofs.RangedItems.{first-exactly}
-use Rattle.posts.specs.Words.{between}
+use Rattle.octets.specs.Ranges.{between}
 use Rattle.numbering.specs.Items.{item, isAccuracy, counted, numberTests, badNumber}
 
 pub record RangedNumbers (zs : List ℤ) : Type 0 where

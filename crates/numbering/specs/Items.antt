@@ -5,7 +5,7 @@ use mathlib.Core.List.{List, [], _∷_}
 use lib.IntN.{ℤ, pos, negsuc, negℤ, _+ℤ_, _-ℤ_}
 use lib.ListN.{getD}
 use Rattle.octets.specs.Choice.{pick}
-use Rattle.posts.specs.Words.{between}
+use Rattle.octets.specs.Ranges.{between}
 use Rattle.rules.specs.Rules.{isLetter, isVersion}
 use Rattle.describing.specs.Items.{firstFailed}
 use Rattle.describing.specs.declared.Accuracy.{Accuracy}

@@ -5,7 +5,7 @@ ghost use Prim.Native.Nat.{_+_, _-_, _<_, _≤_};
 ghost use lib.IntN.{pos, negℤ, _+ℤ_};
 ghost use lib.Signed.{leZ};
 ghost use Rattle.rules.specs.Rules.{isLetter, isVersion};
-ghost use Rattle.posts.specs.Words.{between};
+ghost use Rattle.octets.specs.Ranges.{between};
 ghost use Rattle.numbering.specs.Items.{item, isAccuracy, numberTests, badNumber, counted, datumFor, accuracyFor, accuraciesFor, descriptionOf};
 use describing::Accuracies;
 use describing::Accuracy;

@@ -11,3 +11,4 @@ pub mod SumLaws
 pub mod DigitLaws
 pub mod TextLaws
 pub mod PartLaws
+pub mod Signed

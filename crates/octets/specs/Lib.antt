@@ -1,6 +1,7 @@
 -- What lent bytes say: the words that every other crate's definitions are made of.
 pub mod Choice
 pub mod Tests
+pub mod Ranges
 pub mod Scan
 pub mod Places
 pub mod Numbers

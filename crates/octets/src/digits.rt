@@ -5,7 +5,7 @@ ghost use lib.ListN.{length};
 ghost use Rattle.octets.specs.Digits.{isDigit, digitOf, digitsAt, decimalAt, digitsOf};
 ghost use Rattle.octets.specs.Pastes.{pasted};
 
-pub fn is_digit(b: u8) -> bool
+fn is_digit(b: u8) -> bool
     ensures { λ r. ⌜ r ≡ isDigit b ⌝ }
 {
     crate::choices::both(b'0' <= b, b <= b'9')

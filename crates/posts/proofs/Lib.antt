@@ -1,5 +1,4 @@
 -- The laws that the proofs cite, and what they give together: words and heights, there and back.
-pub mod Signed
 pub mod PostWords
 pub mod Voids
 pub mod Pairs

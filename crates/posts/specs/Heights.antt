@@ -3,7 +3,8 @@ use Prim.Native.Nat.{ℕ, _+_, _%_}
 use mathlib.Core.Bool.{Bool}
 use lib.IntN.{ℤ, pos, negsuc, negℤ}
 use Rattle.octets.specs.Choice.{pick}
-use Rattle.posts.specs.Words.{between, inRange}
+use Rattle.octets.specs.Ranges.{between}
+use Rattle.posts.specs.Words.{inRange}
 use Rattle.posts.specs.declared.Post.{Post}
 use Rattle.posts.specs.declared.Post.the-variants.{Height, Void}
 

@@ -2,9 +2,9 @@
 use Prim.Native.Nat.{ℕ, _-_}
 use mathlib.Core.Bool.{Bool, false}
 use lib.IntN.{ℤ, pos, negℤ}
-use lib.Signed.{leZ}
 use lib.Dec.{ltb, eqb}
-use Rattle.octets.specs.Choice.{pick, both}
+use Rattle.octets.specs.Choice.{pick}
+use Rattle.octets.specs.Ranges.{between}
 use Rattle.posts.specs.declared.Post.{Post}
 use Rattle.posts.specs.declared.Post.the-variants.{Height, Void}
 
@@ -15,10 +15,6 @@ heightOf w = pick (ltb w 0x8000) (pos w) (negℤ (pos (w - 0x8000)))
 -- P2: FFFF hex is void, every other word a height
 unfoldable pub postOf : ℕ → Post
 postOf w = pick (eqb w 0xFFFF) Void (Height (heightOf w))
-
--- a number in a range, ends included
-abbrev pub between : ℤ → ℤ → ℤ → Bool
-between low high z = both (leZ low z) (leZ z high)
 
 -- P3: heights run from -12,000 to 9,000
 unfoldable pub inRange : ℤ → Bool

@@ -1,7 +1,6 @@
 // Reaching one post of a cell: the headers are judged, then the post's column, and nothing else is read.
 ghost use mathlib.Core.Path.{_≡_};
 ghost use Prim.Native.Nat.{_+_, _*_, _≤_};
-ghost use lib.ListN.{length};
 ghost use Rattle.reaching.specs.Reach as by;
 use answers::Refusal;
 use columns::Judged;

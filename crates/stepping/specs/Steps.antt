@@ -1,4 +1,4 @@
--- Stepwise intake (rules S1 to S6): what a step says of a piece, and the state after it. Any state is answered, also one that no step made.
+-- Stepwise intake (rules S1 to S7): what a step says of a piece, and the state after it. Any state is answered, also one that no step made.
 use Prim.Native.Nat.{ℕ, zero, suc, _+_}
 use mathlib.Core.Path.{_≡_}
 use mathlib.Core.Bool.{Bool}

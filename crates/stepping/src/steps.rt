@@ -1,6 +1,6 @@
 // Intake step by step: the headers, a piece for each column, then the rest. The state goes in and comes back by value.
 ghost use mathlib.Core.Path.{_≡_};
-ghost use Prim.Native.Nat.{_+_, _*_, _<_, _≤_};
+ghost use Prim.Native.Nat.{_+_, _*_, _≤_};
 ghost use Rattle.answers.specs.Told as told;
 ghost use Rattle.stepping.specs.Steps.{saidOf, saidOfColumn, Step, wanted};
 use angles::near_edge;

@@ -1,6 +1,5 @@
 // The column writer: one column from a level, its number and its heights, voids allowed.
 ghost use mathlib.Core.Path.{_≡_};
-ghost use lib.ListN.{length};
 ghost use Rattle.answers.specs.Told as told;
 ghost use Rattle.streaming.specs.Column.{placed, judgedColumn, columnTold, columnOutput};
 use crate::given::judge_posts;

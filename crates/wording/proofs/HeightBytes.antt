@@ -17,7 +17,7 @@ use Rattle.octets.specs.Pastes.{pasted}
 use Rattle.octets.specs.Places.{places}
 use Rattle.octets.proofs.PartLaws.{paste-shown}
 use Rattle.octets.proofs.NumberLaws.{number-two}
-use Rattle.posts.specs.Words.{between}
+use Rattle.octets.specs.Ranges.{between}
 use Rattle.wording.specs.Words.{twosOf, heightsIn, twosWord, bytesFor}
 
 -- a word below the sign bit is itself; any other, as far below -1 as it lies below FFFF hex

@@ -4,7 +4,7 @@ use mathlib.Core.Path.{_≡_}
 use lib.IntN.{ℤ, pos, negsuc}
 use Prim.Native.Nat.{ℕ, _-_, _<_}
 use mir.Syntax.{w16}
-use Rattle.posts.proofs.Signed.{Below, below, NotBelow, not-below}
+use Rattle.octets.proofs.Signed.{Below, below, NotBelow, not-below}
 use Rattle.packing.specs.Packed as by
 use Rattle.packing.proofs.bits.Statement.{statement}
 use Rattle.packing.proofs.bits.Tie as tie

@@ -1,5 +1,5 @@
 -- `on_axis`: by the sign of the position, of which the machine has the bits.
-use Rattle.posts.proofs.Signed.{Below, below, NotBelow, not-below}
+use Rattle.octets.proofs.Signed.{Below, below, NotBelow, not-below}
 use Rattle.locating.proofs.Positions.{below-off, below-on, above-off, above-on}
 use Rattle.locating.proofs.position.on_axis.Statement.{statement}
 use Rattle.locating.proofs.position.on_axis.Tie as tie

@@ -3,7 +3,7 @@ use Rattle.numbering.proofs.NumberRanges.{accuracy-high, cast}
 use Rattle.numbering.proofs.items.accuracy.Statement.{statement}
 use Rattle.numbering.proofs.items.accuracy.Tie as tie
 use Rattle.numbering.specs.Items.{item, accuracyFor}
-use Rattle.posts.proofs.Signed.{NotBelow, below, not-below}
+use Rattle.octets.proofs.Signed.{NotBelow, below, not-below}
 use borrow.Author.Needs.{needs}
 use mathlib.Core.Path.{sym, ap}
 use mir.Syntax.{w16, w64}

@@ -3,7 +3,7 @@ use Rattle.numbering.proofs.NumberRanges.{whole, cast, cast-is}
 use Rattle.numbering.proofs.items.count.Statement.{statement}
 use Rattle.numbering.proofs.items.count.Tie as tie
 use Rattle.numbering.specs.Items.{item}
-use Rattle.posts.proofs.Signed.{NotBelow}
+use Rattle.octets.proofs.Signed.{NotBelow}
 use borrow.Author.Needs.{needs}
 use mir.Syntax.{w64}
 use native.Mathlib.Omega.{arith}

@@ -6,7 +6,7 @@ use mir.Val.{ofZ}
 use mir.Facts.{toZ-ofZ, sfits-lit}
 use Rattle.posts.specs.Words.{inRange}
 use Rattle.posts.specs.Heights.{heightAllowed}
-use Rattle.posts.proofs.Signed.{same-bits, le-not-lt}
+use Rattle.octets.proofs.Signed.{same-bits, le-not-lt}
 use Rattle.posts.proofs.Voids.{not-void}
 use Rattle.posts.proofs.heights.is_allowed.Statement.{statement}
 use Rattle.posts.proofs.heights.is_allowed.Tie as tie

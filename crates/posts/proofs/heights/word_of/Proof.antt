@@ -3,7 +3,7 @@ use borrow.Author.Needs.{needs}
 use native.Mathlib.Omega.{arith}
 use mir.Syntax.{w64}
 use Rattle.posts.proofs.PostWords.{down-word, up-word}
-use Rattle.posts.proofs.Signed.{Below, below, NotBelow, not-below}
+use Rattle.octets.proofs.Signed.{Below, below, NotBelow, not-below}
 use Rattle.posts.proofs.heights.word_of.Statement.{statement}
 use Rattle.posts.proofs.heights.word_of.Tie as tie
 

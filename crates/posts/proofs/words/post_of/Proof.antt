@@ -7,7 +7,7 @@ use borrow.Author.Tests.{eq-eqb}
 use Rattle.posts.specs.Words.{postOf}
 use Rattle.posts.specs.declared.Post.the-variants.{Height}
 use Rattle.posts.proofs.PostWords.{up-post, down-post}
-use Rattle.posts.proofs.Signed.{minus-fits, minus-back}
+use Rattle.octets.proofs.Signed.{minus-fits, minus-back}
 use Rattle.posts.proofs.words.post_of.Statement.{statement}
 use Rattle.posts.proofs.words.post_of.Tie as tie
 
