@@ -1,5 +1,6 @@
 -- The laws of columns.
 pub mod WordSearch
+pub mod ColumnExactly
 pub mod Exactly
 pub mod Damage
 pub mod WrittenColumn
