@@ -1,38 +1,42 @@
--- What headers say hangs on their 3,428 bytes alone.
-use Prim.Native.Nat.{ℕ, _+_, _≤_}
-use native.Mathlib.Omega.{arith}
+-- What headers say hangs on the bytes of their fields alone, and so on their 3,428 bytes alone.
+use Prim.Native.Nat.{ℕ, _≤_}
 use mathlib.Core.Path.{_≡_}
 use mathlib.Core.List.{List}
-use lib.ListN.{length, take}
+use lib.Dec.{lit<}
+use lib.ListN.{length, take, drop}
 use Rattle.octets.specs.Texts.{ascii}
-use Rattle.octets.proofs.PartLaws.{decimal-alike, digits-alike, text-alike}
-use Rattle.angles.specs.Angles.{northward, eastward}
-use Rattle.headers.proofs.SameHeaders.{byte-same, level-same, origin-same}
+use Rattle.octets.proofs.PartLaws.{byte-alike, decimal-alike, digits-alike, text-alike}
+use Rattle.headers.specs.Due.{dueIn}
+use Rattle.headers.proofs.FreeBytes.{SameFields, level-alike, due-alike}
+use Rattle.headers.proofs.SameHeaders.{same-fields}
 use Rattle.describing.specs.Described.{accuracyAt, datumAt, itemsIn}
 
-module _ (s t : List ℕ) (ls : 3428 ≤ length s) (lt : 3428 ≤ length t) (e : take 3428 s ≡ take 3428 t) where
-  accuracy-same : (at : ℕ) → at + 4 ≤ 3428 → accuracyAt s at ≡ accuracyAt t at
+module _ (s t : List ℕ) where
+  accuracy-alike : (at : ℕ) → take 4 (drop at s) ≡ take 4 (drop at t) → accuracyAt s at ≡ accuracyAt t at
   unfolding accuracyAt
-  accuracy-same at h = let same = byte-same s t ls lt e in rw (digits-alike s t 3428 same at 4 h, decimal-alike s t 3428 same at 4 h)
+  accuracy-alike at e = rw (digits-alike s t at 4 e, decimal-alike s t at 4 e)
 
-  datum-same : datumAt s 221 ≡ datumAt t 221
+  datum-alike : (at : ℕ) → take 3 (drop at s) ≡ take 3 (drop at t) → datumAt s at ≡ datumAt t at
   unfolding datumAt
-  datum-same = rw (text-alike s t 3428 (byte-same s t ls lt e) 221 (ascii "MSL") (omega arith))
+  datum-alike at e = rw (text-alike s t at (ascii "MSL") e)
 
-  pub same-items : itemsIn s ≡ itemsIn t
-  unfolding itemsIn
-  same-items =
-      let same = byte-same s t ls lt e in
+  items-alike : SameFields s t → itemsIn s ≡ itemsIn t
+  unfolding itemsIn dueIn
+  items-alike same =
+      let due = due-alike s t same in
       λ k. record {
-        level = level-same s t ls lt e k;
-        latitude = origin-same s t ls lt e northward 12 (omega arith) k;
-        longitude = origin-same s t ls lt e eastward 4 (omega arith) k;
-        security = same 32 (omega arith) k;
-        edition = decimal-alike s t 3428 same 167 2 (omega arith) k;
-        version = same 169 (omega arith) k;
-        datum = datum-same k;
-        uhl = accuracy-same 28 (omega arith) k;
-        absolute = record { horizontal = accuracy-same 731 (omega arith) k; vertical = accuracy-same 735 (omega arith) k };
-        relative = record { horizontal = accuracy-same 739 (omega arith) k; vertical = accuracy-same 743 (omega arith) k };
-        partial = decimal-alike s t 3428 same 369 2 (omega arith) k;
+        level = level-alike s t same k;
+        latitude = due k .latitude;
+        longitude = due k .longitude;
+        security = due k .letter;
+        edition = decimal-alike s t 167 2 (same 13 (lit< tt)) k;
+        version = byte-alike s t 169 1 (same 14 (lit< tt)) 0 (lit< tt) k;
+        datum = datum-alike 221 (same 16 (lit< tt)) k;
+        uhl = accuracy-alike 28 (same 5 (lit< tt)) k;
+        absolute = record { horizontal = accuracy-alike 731 (same 35 (lit< tt)) k; vertical = accuracy-alike 735 (same 36 (lit< tt)) k };
+        relative = record { horizontal = accuracy-alike 739 (same 37 (lit< tt)) k; vertical = accuracy-alike 743 (same 38 (lit< tt)) k };
+        partial = decimal-alike s t 369 2 (same 33 (lit< tt)) k;
       }
+
+  pub same-items : 3428 ≤ length s → 3428 ≤ length t → take 3428 s ≡ take 3428 t → itemsIn s ≡ itemsIn t
+  same-items ls lt e = items-alike (same-fields s t ls lt e)

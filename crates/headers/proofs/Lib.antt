@@ -4,4 +4,5 @@ pub mod BrokenRows
 pub mod Exactly
 pub mod FirstFour
 pub mod TwoParts
+pub mod FreeBytes
 pub mod SameHeaders

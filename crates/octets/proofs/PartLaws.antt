@@ -6,7 +6,7 @@ use mathlib.Core.Path.{_≡_, refl, sym, ap, _∙_}
 use mathlib.Core.List.{List, [], _∷_, _++_, append-assoc}
 use lib.Dec.{eqb, lit<}
 use lib.ListN.{length, getD, take, drop, length-append, length-drop, take-append-drop}
-use lib.Seq.{length-take-le, take-append-le, take-append-seam, drop-append-le, drop-append-add, drop-at, drop-drop, getD-take, getD-drop, ext-getD}
+use lib.Seq.{length-take-le, take-append-le, take-append-seam, drop-append-le, drop-append-add, drop-at, drop-drop, getD-take, getD-drop}
 use Rattle.octets.specs.Digits.{digitsAt, digitOf, decimalAt}
 use Rattle.octets.specs.Texts.{differ, has}
 use Rattle.octets.specs.Pastes.{pasted}
@@ -109,25 +109,23 @@ pub text-part : (s : List ℕ) (at : ℕ) (want : List ℕ) → has s at want �
 text-part s at want =
     ap (λ (k : ℕ). eqb k (length want)) (differ-same s (take (length want) (drop at s)) at 0 want (part-byte s at (length want)))
 
--- and from two lists whose first n bytes are the same
-module _ (s t : List ℕ) (n : ℕ) (same : (i : ℕ) → i < n → getD s i 0 ≡ getD t i 0) where
-  pub decimal-alike : (at k : ℕ) → at + k ≤ n → decimalAt s at k ≡ decimalAt t at k
-  decimal-alike at k h =
-      value-same 10 (λ (i : ℕ). digitOf (getD s (at + i) 0)) (λ (i : ℕ). digitOf (getD t (at + i) 0)) k
-      (λ i l. ap digitOf (same (at + i) (omega arith)))
+-- and from two lists that hold the same part
+module _ (s t : List ℕ) (at n : ℕ) (same : take n (drop at s) ≡ take n (drop at t)) where
+  pub byte-alike : (i : ℕ) → i < n → getD s (at + i) 0 ≡ getD t (at + i) 0
+  byte-alike i h = sym (byte-part s at n i h) ∙ ap (λ (l : List ℕ). getD l i 0) same ∙ byte-part t at n i h
 
-  pub digits-alike : (at k : ℕ) → at + k ≤ n → digitsAt s at k ≡ digitsAt t at k
-  digits-alike at k h = digits-same s t at at k (λ i l. same (at + i) (omega arith))
+  pub decimal-alike : decimalAt s at n ≡ decimalAt t at n
+  decimal-alike = decimal-part s at n ∙ ap (λ (l : List ℕ). decimalAt l 0 n) same ∙ sym (decimal-part t at n)
 
-  pub text-alike : (at : ℕ) (want : List ℕ) → at + length want ≤ n → has s at want ≡ has t at want
-  text-alike at want h =
-      ap (λ (k : ℕ). eqb k (length want)) (differ-same s t at at want (λ i l. same (at + i) (omega arith)))
+  pub digits-alike : digitsAt s at n ≡ digitsAt t at n
+  digits-alike = digits-part s at n ∙ ap (λ (l : List ℕ). digitsAt l 0 n) same ∙ sym (digits-part t at n)
 
-  pub part-alike : (at k : ℕ) → at + k ≤ n → n ≤ length s → n ≤ length t → take k (drop at s) ≡ take k (drop at t)
-  part-alike at k h ls lt =
-      let es : length (take k (drop at s)) ≡ k = length-take-le k (drop at s) (rw (length-drop at s) (omega arith)) in
-      let et : length (take k (drop at t)) ≡ k = length-take-le k (drop at t) (rw (length-drop at t) (omega arith)) in
-      ext-getD 0 (take k (drop at s)) (take k (drop at t)) (es ∙ sym et)
-      (λ i l.
-      let m : i < k = omega arith in
-      byte-part s at k i m ∙ same (at + i) (omega arith) ∙ sym (byte-part t at k i m))
+pub text-alike : (s t : List ℕ) (at : ℕ) (want : List ℕ) → take (length want) (drop at s) ≡ take (length want) (drop at t)
+    → has s at want ≡ has t at want
+text-alike s t at want same = text-part s at want ∙ ap (λ (l : List ℕ). has l 0 want) same ∙ sym (text-part t at want)
+
+-- lists with the same front hold the same parts of it
+pub part-alike : {A : Type 0} (s t : List A) (i at n : ℕ) → i ≤ length s → i ≤ length t → at + n ≤ i → take i s ≡ take i t
+    → take n (drop at s) ≡ take n (drop at t)
+part-alike s t i at n ls lt h e =
+    sym (part-of-front s i at n ls h) ∙ ap (λ (l : List _). take n (drop at l)) e ∙ part-of-front t i at n lt h
