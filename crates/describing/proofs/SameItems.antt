@@ -1,15 +1,19 @@
 -- What headers say hangs on the bytes of their fields alone, and so on their 3,428 bytes alone.
 use Prim.Native.Nat.{ℕ, _≤_}
-use mathlib.Core.Path.{_≡_}
+use mathlib.Core.Path.{_≡_, refl, ap, _∙_}
 use mathlib.Core.List.{List}
 use lib.Dec.{lit<}
 use lib.ListN.{length, take, drop}
 use Rattle.octets.specs.Texts.{ascii}
 use Rattle.octets.proofs.PartLaws.{byte-alike, decimal-alike, digits-alike, text-alike}
 use Rattle.headers.specs.Due.{dueIn}
-use Rattle.headers.proofs.FreeBytes.{SameFields, level-alike, due-alike}
+use Rattle.headers.specs.Judged.{judged}
+use Rattle.headers.specs.declared.Judged.{Judged}
+use Rattle.headers.specs.declared.Judged.the-variants as judgement
+use Rattle.headers.proofs.FreeBytes.{SameFields, level-alike, due-alike, free-bytes}
 use Rattle.headers.proofs.SameHeaders.{same-fields}
-use Rattle.describing.specs.Described.{accuracyAt, datumAt, itemsIn}
+use Rattle.describing.specs.Described.{accuracyAt, datumAt, itemsIn, describedBy, described}
+use Rattle.describing.specs.declared.Described.the-variants.{As}
 
 module _ (s t : List ℕ) where
   accuracy-alike : (at : ℕ) → take 4 (drop at s) ≡ take 4 (drop at t) → accuracyAt s at ≡ accuracyAt t at
@@ -40,3 +44,12 @@ module _ (s t : List ℕ) where
 
   pub same-items : 3428 ≤ length s → 3428 ≤ length t → take 3428 s ≡ take 3428 t → itemsIn s ≡ itemsIn t
   same-items ls lt e = items-alike (same-fields s t ls lt e)
+
+  judged-alike : SameFields s t → (j : Judged) → describedBy s j ≡ describedBy t j
+  judged-alike same (judgement.Good facts) = ap As (items-alike same)
+  judged-alike same (judgement.Refused r) = refl
+
+  -- H41 for the description: bytes that no field has do not count
+  pub free-described : 3428 ≤ length s → 3428 ≤ length t → SameFields s t → described s ≡ described t
+  unfolding described
+  free-described ls lt same = ap (describedBy s) (free-bytes s t ls lt same) ∙ judged-alike same (judged t)
