@@ -5,7 +5,7 @@ use layout::Grid;
 pub mod judge;
 pub mod readings;
 
-// What the rest of the library needs of good headers.
+// What the rest of the library needs of good headers. Angles are counted as in `angles`.
 pub struct Facts {
     pub grid: Grid,
     pub latitude: usize,
