@@ -7,12 +7,15 @@ use Rattle.layout.specs.Grid.{longitudeInterval, columnsOf, cellBytes, gridOf}
 use Rattle.angles.specs.Angles.{edgeOf}
 use Rattle.octets.specs.Places.{places}
 use Rattle.octets.specs.Sums.{sumOf}
+use Rattle.octets.specs.Pastes.{pasted}
 use Rattle.columns.specs.Column.{preamble, wordsOf, sealed, columnOf}
 use Rattle.posts.specs.Heights.{wordOf}
 use Rattle.posts.specs.Words.{heightOf, postOf, inRange, wordAllowed}
+use Rattle.storing.specs.Stored.{stored}
 use Rattle.locating.specs.Position.{southWest}
+use Rattle.editing.specs.Edit.{storedIn}
 use Rattle.demands.specs.Marked.{made, givens, answers}
 
 pub marked : map made givens ≡ answers
-unfolding made nearEdge factorAmong factorOf latitudeInterval postsOf longitudeInterval columnsOf cellBytes gridOf edgeOf southWest heightOf postOf inRange wordAllowed wordOf places sumOf preamble wordsOf sealed columnOf
+unfolding made nearEdge factorAmong factorOf latitudeInterval postsOf longitudeInterval columnsOf cellBytes gridOf edgeOf southWest heightOf postOf inRange wordAllowed wordOf places sumOf preamble wordsOf sealed columnOf pasted stored storedIn
 marked = refl

@@ -9,40 +9,33 @@ use contract.Lifetimes as L
 use denote.Ref.{now}
 use borrow.Author.Tests.{eq-eqb, ne-eqb}
 use borrow.Fn.Kinds as K
-use Rattle.answers.specs.Told.{Told, numbered, told, act}
+use Rattle.answers.specs.Told.{Told, refused, numbered, numberTold, placeTold, told, act}
 use Rattle.answers.specs.declared.Refusal.{Refusal}
-use Rattle.answers.specs.declared.Refusal.the-variants as because
 use Rattle.answers.specs.declared.Outcome.{Outcome}
 use Rattle.answers.specs.declared.Outcome.the-variants.{Done, Refused}
+use Rattle.answers.proofs.Injective.{refusal-told}
 use Rattle.packing.specs.Packed.{packed}
 use Rattle.reading.specs.Intake.{taken}
 use Rattle.reading.proofs.IntakeExactly.{IntakeRow, bad-headers, cut, column, surplus, fine, row}
 use Rattle.writing.proofs.OwnGrid.{cell-facts}
 use Rattle.dted.proofs.cells.dted_intake.Reads as intake
 use Rattle.dted.proofs.cells.dted_intake.Kinds as intake-kinds
+use Rattle.demands.proofs.PlacesFit.{number-ranged}
 
 -- no refusal is answered as 0
 never-0 : (r : Refusal) → packed (numbered r) ≡ 0 → ⊥
 unfolding packed
-never-0 (because.Short n) e = omega arith
-never-0 (because.Field n) e = omega arith
-never-0 (because.Cut n) e = omega arith
-never-0 (because.Preamble n) e = omega arith
-never-0 (because.Checksum n) e = omega arith
-never-0 (because.Word n) e = omega arith
-never-0 (because.Surplus n) e = omega arith
-never-0 because.OffGrid e = omega arith
-never-0 (because.Item n) e = omega arith
-never-0 (because.GridLength n) e = omega arith
-never-0 (because.Height n) e = omega arith
-never-0 (because.Room n) e = omega arith
+never-0 r e =
+    let told : packed (refused (numberTold (numbered r)) (placeTold (numbered r))) ≡ 0 = ap packed (sym (refusal-told r)) ∙ e in
+    let n = number-ranged r in
+    omega (arith, told, n .0, n .1)
 
 -- an act answers 0 exactly where it was done
 pub was-done : (x : Outcome) → packed (told act x) ≡ 0 → x ≡ Done
 was-done Done e = refl
 was-done (Refused r) e = absurd (never-0 r e)
 
-done-0 : packed (told act Done) ≡ 0
+pub done-0 : packed (told act Done) ≡ 0
 unfolding packed
 done-0 = refl
 

@@ -9,6 +9,7 @@ use lib.IntN.{ℤ}
 use lib.ListN.{length, getD}
 use Rattle.answers.specs.Told.{told, act}
 use Rattle.answers.specs.declared.Outcome.{Outcome}
+use Rattle.packing.specs.Apart.{Fits}
 use Rattle.headers.specs.Judged.{judged, voidsAllowed}
 use Rattle.headers.specs.declared.Judged.{Judged}
 use Rattle.headers.specs.declared.Judged.the-variants as headers
@@ -33,7 +34,7 @@ use Rattle.hosting.proofs.ColumnBytesExactly as column
 use Rattle.numbering.proofs.ItemNumbers.{number-exactly, in-range}
 use Rattle.dted.specs.Grid.{saidOfLaid, gridTold}
 use Rattle.dted.specs.Description.{saidOfDescribed}
-use Rattle.demands.proofs.PlacesFit.{Fits, most, headers-fit, given-fits, number-fits}
+use Rattle.demands.proofs.PlacesFit.{most, small-fits, headers-fit, given-fits, number-fits}
 
 -- a test that fails is one of the list
 failed-below : (ts : List Bool) (n : ℕ) → getD ts n true ≡ false → n < length ts
@@ -43,12 +44,13 @@ failed-below (t ∷ ts) (suc n) e = omega (arith, failed-below ts n e)
 
 bytes-by : (posts bytes : ℕ) (voids : Bool) (given : List ℕ) (room : ℕ) → posts ≤ most → bytes ≤ most
     → (x : Outcome) → BytesRow posts bytes voids given room x → Fits (told act x)
-bytes-by posts bytes voids given room hp hb _ (differ e) = (lit< tt, omega arith)
+bytes-by posts bytes voids given room hp hb _ (differ e) = small-fits 10 posts (lit< tt) (lit< tt) hp
 bytes-by posts bytes voids given room hp hb x (as-heights _ e r) = given-fits posts bytes voids _ room hp hb x r
 
 cell-by : (items : List ℤ) (grid : List ℕ) (room : ℕ) (x : Outcome) → cell.CellRow items grid room x → Fits (told act x)
 unfolding numberTests
-cell-by items grid room _ (item n low) = (lit< tt, omega (arith, failed-below (numberTests items) n (low .0)))
+cell-by items grid room _ (item n low) =
+    small-fits 9 (suc n) (lit< tt) (lit< tt) (omega (arith, failed-below (numberTests items) n (low .0)))
 cell-by items grid room x (then-rest _ e r) =
     let d = descriptionOf items in
     let g = due-ranged d (in-range items (number-exactly items .0 .1 e)) (factsFor d .grid) refl in
@@ -72,8 +74,8 @@ grid-by level edge (Out g) e =
     let o = laid-out level edge g e in
     let r = ranged level edge (o .0) (o .1 .0) in
     rw (o .1 .1) (omega (arith, r .level), (omega (arith, r .columns-high), omega (arith, r .posts-high)))
-grid-by level edge NoLevel e = (lit< tt, lit< tt)
-grid-by level edge NoZone e = (lit< tt, lit< tt)
+grid-by level edge NoLevel e = (lit< tt, (lit< tt, lit< tt))
+grid-by level edge NoZone e = (lit< tt, (lit< tt, lit< tt))
 
 pub grid-fits : (level : ℕ) (latitude : ℤ) → Fits (gridTold level latitude)
 unfolding gridTold

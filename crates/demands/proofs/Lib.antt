@@ -10,3 +10,11 @@ pub mod HostSettled
 pub mod HostAnswers
 pub mod HostWrites
 pub mod HostEdits
+pub mod HostTold
+pub mod CellsTaken
+pub mod RefusedLeaves
+pub mod PostsAnswered
+pub mod EditTouches
+pub mod EditReads
+pub mod SteppedWhole
+pub mod ColumnsReturned

@@ -1,26 +1,31 @@
 -- What every call tells fits the bits that a packed answer has for it (rule B1), so that nothing is cut.
 use Prim.Native.Nat.{ℕ, zero, suc, _+_, _*_, _<_, _≤_}
 use native.Mathlib.Omega.{arith}
-use mathlib.Core.Path.{_≡_, refl, subst}
+use mathlib.Core.Path.{_≡_, refl, sym, subst, _∙_}
 use mathlib.Core.Bool.{Bool, true}
 use mathlib.Core.List.{List}
 use lib.Dec.{eqb, leb, lit<}
-use lib.IntN.{ℤ}
+use lib.IntN.{ℤ, pos, negsuc}
 use lib.ListN.{length}
+use borrow.Author.Tests.{leb-true}
 use Rattle.octets.specs.Scan.{scan}
 use Rattle.octets.proofs.ChoiceLaws.{by-test}
-use Rattle.answers.specs.Told.{Told, refused, more, accepted, height, void, heightAt, voidAt, done, numbered, placeTold, told, act}
+use Rattle.answers.specs.Told.{Told, refused, numbered, numberTold, placeTold, told, act}
 use Rattle.answers.specs.Told as telling
 use Rattle.answers.specs.declared.Refusal.{Refusal}
 use Rattle.answers.specs.declared.Refusal.the-variants as because
 use Rattle.answers.specs.declared.Outcome.{Outcome}
+use Rattle.answers.proofs.Injective.{refusal-told}
+use Rattle.packing.specs.Apart.{FitsHeight, Fits}
 use Rattle.layout.specs.declared.Grid.{Grid}
 use Rattle.layout.proofs.Ranges.{Ranged, ranged}
 use Rattle.layout.specs.Levels.{postsOf, columnBytes}
 use Rattle.layout.specs.Grid.{gridOf}
-use Rattle.posts.specs.Words.{postOf}
+use Rattle.posts.specs.Words.{postOf, inRange}
 use Rattle.posts.specs.declared.Post.{Post}
-use Rattle.posts.specs.declared.Post.the-variants as post
+use Rattle.posts.proofs.PostWords.{up-in-range, down-in-range}
+use Rattle.posts.proofs.Readings.{Reads}
+use Rattle.posts.proofs.Readings as reads
 use Rattle.fields.specs.Table.{fieldAt}
 use Rattle.headers.specs.Judged.{judged, factsIn, voidsAllowed, Follows}
 use Rattle.headers.specs.declared.Judged.{Judged}
@@ -31,7 +36,7 @@ use Rattle.headers.proofs.TableRows.{row}
 use Rattle.columns.specs.Judged.{judgedColumn, RefusedIn}
 use Rattle.columns.specs.declared.Judged as Columns
 use Rattle.columns.specs.declared.Judged.the-variants as columns
-use Rattle.columns.specs.Column.{wordIn}
+use Rattle.columns.specs.Column.{wordIn, GoodColumn}
 use Rattle.columns.proofs.Damage.{judged-in}
 use Rattle.reading.specs.Cell.{startOf, columnAt}
 use Rattle.reaching.specs.Lookup.{postReads, readingOf, lookedUp}
@@ -48,35 +53,42 @@ use Rattle.editing.specs.Edit.{judgedEdit, editTold}
 use Rattle.editing.proofs.EditExactly as editing
 use Rattle.reading.specs.Intake.{orRest, judgeNext, ended, columnsFrom, takenBy, taken}
 
--- bits for each part of what is told: 8 for a number, 56 for a place, 16 for a count or an index
-abbrev pub Fits : Told → Type 0
-Fits (refused number place) = (number < 256) × (place < 72057594037927936)
-Fits more = Unit
-Fits (accepted level columns posts) = (level < 65536) × ((columns < 65536) × (posts < 65536))
-Fits (height z) = Unit
-Fits void = Unit
-Fits (heightAt column post z) = (column < 65536) × (post < 65536)
-Fits (voidAt column post) = (column < 65536) × (post < 65536)
-Fits done = Unit
-
 -- the longest cell: no offset in a file that is judged lies past it
 abbrev pub most : ℕ
 most = 25981042
 
+-- every refusal has a number of 8 bits that is not 0
+pub number-ranged : (r : Refusal) → (0 < numberTold (numbered r)) × (numberTold (numbered r) < 256)
+number-ranged (because.Short n) = (lit< tt, lit< tt)
+number-ranged (because.Field n) = (lit< tt, lit< tt)
+number-ranged (because.Cut n) = (lit< tt, lit< tt)
+number-ranged (because.Preamble n) = (lit< tt, lit< tt)
+number-ranged (because.Checksum n) = (lit< tt, lit< tt)
+number-ranged (because.Word n) = (lit< tt, lit< tt)
+number-ranged (because.Surplus n) = (lit< tt, lit< tt)
+number-ranged because.OffGrid = (lit< tt, lit< tt)
+number-ranged (because.Item n) = (lit< tt, lit< tt)
+number-ranged (because.GridLength n) = (lit< tt, lit< tt)
+number-ranged (because.Height n) = (lit< tt, lit< tt)
+number-ranged (because.Room n) = (lit< tt, lit< tt)
+
+-- a number and a place of the longest cell fit
+pub small-fits : (number place : ℕ) → 0 < number → number < 256 → place ≤ most → Fits (refused number place)
+small-fits number place some small h = (some, (small, omega arith))
+
 -- a refusal fits where its place is not past that
-numbered-fits : (r : Refusal) → placeTold (numbered r) ≤ most → Fits (numbered r)
-numbered-fits (because.Short n) h = (lit< tt, omega arith)
-numbered-fits (because.Field n) h = (lit< tt, omega arith)
-numbered-fits (because.Cut n) h = (lit< tt, omega arith)
-numbered-fits (because.Preamble n) h = (lit< tt, omega arith)
-numbered-fits (because.Checksum n) h = (lit< tt, omega arith)
-numbered-fits (because.Word n) h = (lit< tt, omega arith)
-numbered-fits (because.Surplus n) h = (lit< tt, omega arith)
-numbered-fits because.OffGrid h = (lit< tt, lit< tt)
-numbered-fits (because.Item n) h = (lit< tt, omega arith)
-numbered-fits (because.GridLength n) h = (lit< tt, omega arith)
-numbered-fits (because.Height n) h = (lit< tt, omega arith)
-numbered-fits (because.Room n) h = (lit< tt, omega arith)
+pub numbered-fits : (r : Refusal) → placeTold (numbered r) ≤ most → Fits (numbered r)
+numbered-fits r h =
+    let n = number-ranged r in
+    subst Fits (sym (refusal-told r)) (small-fits (numberTold (numbered r)) (placeTold (numbered r)) (n .0) (n .1) h)
+
+off-grid-fits : Fits (refused 8 0)
+off-grid-fits = (lit< tt, (lit< tt, lit< tt))
+
+-- a height that a cell may hold has 16 bits, and is not void's number
+pub height-fits : (z : ℤ) → inRange z ≡ true → FitsHeight z
+height-fits (pos n) e = omega (arith, leb-true n 9000 (sym (up-in-range n) ∙ e))
+height-fits (negsuc n) e = omega (arith, leb-true (suc n) 12000 (sym (down-in-range (suc n)) ∙ e))
 
 -- a refusal of headers has its place in them
 headers-by : (s : List ℕ) (j : Judged) → Answer s j → (r : Refusal) → j ≡ headers.Refused r → placeTold (numbered r) ≤ most
@@ -107,7 +119,7 @@ module _ (s : List ℕ) (g : Grid) (voids : Bool) (in-range : Ranged g) where
   ended-fits long =
       by-test (eqb long (g .bytes .cell))
       (λ e. rw e (omega (arith, in-range .level), (omega (arith, in-range .columns-high), omega (arith, in-range .posts-high))))
-      (λ e. rw e (lit< tt, omega (arith, in-range .cell-high)))
+      (λ e. rw e (small-fits 7 (g .bytes .cell) (lit< tt) (lit< tt) (in-range .cell-high)))
 
   -- a column's refusal, or the rest
   next-fits : (k : ℕ) → k < g .columns → (x : Columns.Judged) → judgedColumn (columnAt s g k) k (g .posts) voids (startOf g k) ≡ x
@@ -123,7 +135,7 @@ module _ (s : List ℕ) (g : Grid) (voids : Bool) (in-range : Ranged g) where
       let here : k < g .columns = omega arith in
       by-test (leb (startOf g k + g .bytes .column) (length s))
       (λ e. rw e (next-fits k here (judgedColumn (columnAt s g k) k (g .posts) voids (startOf g k)) refl _ (columns-fit (k + 1) n (omega arith))))
-      (λ e. rw e (lit< tt, omega (arith, end-small k here)))
+      (λ e. rw e (small-fits 3 (startOf g k) (lit< tt) (lit< tt) (omega (arith, end-small k here))))
 
 intake-by : (s : List ℕ) (x : Judged) → judged s ≡ x → Fits (takenBy s x)
 intake-by s (headers.Good f) e = columns-fit s (f .grid) (voidsAllowed f) (good-facts s f e .grid) 0 (f .grid .columns) (omega arith)
@@ -141,11 +153,12 @@ module _ (s : List ℕ) (c p : ℕ) where
 
   refused-fits : (x : Reached) → exactly.Row s c p x → (r : Refusal) → x ≡ reach.Refused r → Fits (numbered r)
   refused-fits _ (exactly.bad-headers r e) q same = let t : r ≡ q = cc in subst (λ (y : Refusal). Fits (numbered y)) t (headers-fit s r e)
-  refused-fits _ (exactly.off h away) q same = let t : because.OffGrid ≡ q = cc in subst (λ (y : Refusal). Fits (numbered y)) t (lit< tt, lit< tt)
+  refused-fits _ (exactly.off h away) q same = let t : because.OffGrid ≡ q = cc in subst (λ (y : Refusal). Fits (numbered y)) t off-grid-fits
   refused-fits _ (exactly.cut o cut-off) q same =
       let t : because.Cut (startOf (factsIn s .grid) c) ≡ q = cc in
       subst (λ (y : Refusal). Fits (numbered y)) t
-      (lit< tt, omega (arith, end-small s (factsIn s .grid) true (follows-ranged (o .headers)) c (o .column)))
+      (small-fits 3 (startOf (factsIn s .grid) c) (lit< tt) (lit< tt)
+      (omega (arith, end-small s (factsIn s .grid) true (follows-ranged (o .headers)) c (o .column))))
   refused-fits _ (exactly.column o whole r e) q same =
       let t : r ≡ q = cc in
       let g = follows-ranged (o .headers) in
@@ -154,32 +167,37 @@ module _ (s : List ℕ) (c p : ℕ) where
       (omega (arith, end-small s (factsIn s .grid) true g c (o .column), g .column)) r e)
   refused-fits _ (exactly.good o whole g) q same = let z : _≡_ {A = ℕ} 0 1 = cc in absurd (omega arith)
 
+  -- the word of a good column reads as a height in range, or as void
+  allowed-reads : exactly.OnGrid s c p → GoodColumn (columnAt s (factsIn s .grid) c) c (factsIn s .grid .posts) (voidsAllowed (factsIn s))
+      → Reads (voidsAllowed (factsIn s)) (postOf (wordIn (columnAt s (factsIn s .grid) c) p))
+  allowed-reads o g = reads.reads (voidsAllowed (factsIn s)) (wordIn (columnAt s (factsIn s .grid) c) p) (g .words p (o .post))
+
   post-fits-by : (x : Reached) → exactly.Row s c p x → Fits (told telling.post (readingOf x))
   post-fits-by _ (exactly.bad-headers r e) = refused-fits _ (exactly.bad-headers r e) r refl
   post-fits-by _ (exactly.off h away) = refused-fits _ (exactly.off h away) because.OffGrid refl
   post-fits-by _ (exactly.cut o cut-off) = refused-fits _ (exactly.cut o cut-off) _ refl
   post-fits-by _ (exactly.column o whole r e) = refused-fits _ (exactly.column o whole r e) r refl
-  post-fits-by _ (exactly.good o whole g) = said-fits (postOf (wordIn (columnAt s (factsIn s .grid) c) p))
+  post-fits-by _ (exactly.good o whole g) = said-fits (allowed-reads o g)
     where
-      said-fits : (x : Post) → Fits (told telling.post (postReads x))
-      said-fits (post.Height z) = tt
-      said-fits post.Void = tt
+      said-fits : {x : Post} → Reads (voidsAllowed (factsIn s)) x → Fits (told telling.post (postReads x))
+      said-fits (reads.height z e) = height-fits z e
+      said-fits (reads.void e) = tt
 
   near-fits-by : (x : Reached) → exactly.Row s c p x → Fits (readAt c p x)
   near-fits-by _ (exactly.bad-headers r e) = refused-fits _ (exactly.bad-headers r e) r refl
   near-fits-by _ (exactly.off h away) = refused-fits _ (exactly.off h away) because.OffGrid refl
   near-fits-by _ (exactly.cut o cut-off) = refused-fits _ (exactly.cut o cut-off) _ refl
   near-fits-by _ (exactly.column o whole r e) = refused-fits _ (exactly.column o whole r e) r refl
-  near-fits-by _ (exactly.good o whole g) = said-fits (postOf (wordIn (columnAt s (factsIn s .grid) c) p))
+  near-fits-by _ (exactly.good o whole g) = said-fits (allowed-reads o g)
     where
       small : (c < 65536) × (p < 65536)
       small =
           let f = follows-ranged (o .headers) in
           (omega (arith, o .column, f .columns-high), omega (arith, o .post, f .posts-high))
 
-      said-fits : (x : Post) → Fits (saidAt c p (postReads x))
-      said-fits (post.Height z) = small
-      said-fits post.Void = small
+      said-fits : {x : Post} → Reads (voidsAllowed (factsIn s)) x → Fits (saidAt c p (postReads x))
+      said-fits (reads.height z e) = (small .0, (small .1, height-fits z e))
+      said-fits (reads.void e) = small
 
 -- post lookup
 pub post-fits : (s : List ℕ) (c p : ℕ) → Fits (lookedUp s c p)
@@ -189,7 +207,7 @@ post-fits s c p = post-fits-by s c p (reached s c p) (exactly.row s c p)
 -- position lookup
 position-by : (s : List ℕ) (latitude longitude : ℤ) (t : Told) → position.Row s latitude longitude t → Fits t
 position-by s latitude longitude _ (position.bad-headers r e) = headers-fit s r e
-position-by s latitude longitude _ (position.off f j e) = (lit< tt, lit< tt)
+position-by s latitude longitude _ (position.off f j e) = off-grid-fits
 position-by s latitude longitude _ (position.near f j k e) =
     near-fits-by s (nearestColumn f k) (nearestPost f k) (reached s (nearestColumn f k) (nearestPost f k)) (exactly.row s (nearestColumn f k) (nearestPost f k))
 
@@ -199,7 +217,7 @@ position-fits s latitude longitude = position-by s latitude longitude (located s
 -- the edit
 edit-by : (s : List ℕ) (c p : ℕ) (z : ℤ) (x : Outcome) → editing.EditRow s c p z x → Fits (told act x)
 edit-by s c p z _ (editing.reaching r row) = refused-fits s c p (reach.Refused r) row r refl
-edit-by s c p z _ (editing.height r bad) = (lit< tt, lit< tt)
+edit-by s c p z _ (editing.height r bad) = (lit< tt, (lit< tt, lit< tt))
 edit-by s c p z _ (editing.done r a) = tt
 
 pub edit-fits : (s : List ℕ) (c p : ℕ) (z : ℤ) → Fits (editTold s c p z)
@@ -209,9 +227,9 @@ edit-fits s c p z = edit-by s c p z (judgedEdit s c p z) (editing.row s c p z)
 -- the writers
 pub given-fits : (posts bytes : ℕ) (voids : Bool) (zs : List ℤ) (room : ℕ) → posts ≤ most → bytes ≤ most
     → (x : Outcome) → GivenRow posts bytes voids zs room x → Fits (told act x)
-given-fits posts bytes voids zs room hp hb _ (differs e) = (lit< tt, omega arith)
-given-fits posts bytes voids zs room hp hb _ (not-held l n h bad f) = (lit< tt, omega arith)
-given-fits posts bytes voids zs room hp hb _ (no-room l f h) = (lit< tt, omega arith)
+given-fits posts bytes voids zs room hp hb _ (differs e) = small-fits 10 posts (lit< tt) (lit< tt) hp
+given-fits posts bytes voids zs room hp hb _ (not-held l n h bad f) = small-fits 11 n (lit< tt) (lit< tt) (omega arith)
+given-fits posts bytes voids zs room hp hb _ (no-room l f h) = small-fits 12 bytes (lit< tt) (lit< tt) hb
 given-fits posts bytes voids zs room hp hb _ (fine l f h) = tt
 
 -- of a column, where what is judged after its number fits
@@ -219,8 +237,8 @@ pub number-fits : (level number : ℕ) (Rest : Outcome → Type 0)
     → (postsOf level ≤ most → columnBytes (postsOf level) ≤ most → (x : Outcome) → Rest x → Fits (told act x))
     → (x : Outcome) → NumberRow level number Rest x → Fits (told act x)
 unfolding gridOf
-number-fits level number Rest f _ (level-past h) = (lit< tt, lit< tt)
-number-fits level number Rest f _ (number-past h u) = (lit< tt, lit< tt)
+number-fits level number Rest f _ (level-past h) = (lit< tt, (lit< tt, lit< tt))
+number-fits level number Rest f _ (number-past h u) = off-grid-fits
 number-fits level number Rest f x (then-rest _ h u r) =
     let g = ranged level 0 h (lit< tt) in
     f (omega (arith, g .posts-high)) (omega (arith, g .posts-high)) x r

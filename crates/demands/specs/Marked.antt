@@ -1,19 +1,21 @@
 -- The marked examples (rules M1 to M12): what is given, what it is, and what the definitions make of it.
 use Prim.Native.Nat.{ℕ, _+_, _*_}
-use mathlib.Core.Bool.{true}
+use mathlib.Core.Bool.{true, false}
 use mathlib.Core.List.{List, [], _∷_, map}
 use lib.IntN.{ℤ, pos, negℤ}
 use lib.ListN.{length, drop, replicate}
 use Rattle.octets.specs.Choice.{pick}
 use Rattle.layout.specs.Zones.{nearEdge}
 use Rattle.layout.specs.Grid.{longitudeInterval, columnsOf, cellBytes, gridOf}
-use Rattle.columns.specs.Column.{sealed, columnOf, sumAt}
+use Rattle.columns.specs.Column.{sealed, columnOf, wordAt, sumAt}
 use Rattle.angles.specs.Angles.{edgeOf}
 use Rattle.headers.specs.declared.Facts.{Facts}
 use Rattle.posts.specs.Words.{wordAllowed, postOf}
 use Rattle.posts.specs.declared.Post.{Post}
 use Rattle.posts.specs.declared.Post.the-variants.{Height, Void}
 use Rattle.layout.specs.Levels.{degree}
+use Rattle.reaching.specs.declared.reach.Spot.{Spot}
+use Rattle.editing.specs.Edit.{storedIn}
 use Rattle.locating.specs.Position.{southWest, nearestColumn, nearestPost}
 use Rattle.locating.specs.declared.position.Within.{Within}
 use Rattle.locating.specs.declared.position.Within.the-variants as within
@@ -36,6 +38,8 @@ pub data Given : Type 0 where
   -- the checksum after these bytes, and of the column with this number and these heights
   checksum : List ℕ → Given
   column : ℕ → List ℤ → Given
+  -- a column of one post, these bytes and their checksum, whose post is edited to this height: its word then, and its checksum
+  edited : List ℕ → ℤ → Given
   -- the post nearest a position, in tenths north and east of an origin so many degrees north and east
   nearest : ℕ → ℕ → ℕ → ℕ → ℕ → Given
 
@@ -66,6 +70,10 @@ abbrev pub nearestIs : Facts → Within → Is
 nearestIs f (within.In k) = post (nearestColumn f k) (nearestPost f k)
 nearestIs f within.Off = refused
 
+-- the one post of a column that begins where the bytes do
+abbrev pub onlyPost : Spot
+onlyPost = record { start = 0; posts = 1; voids = false; word = 0 }
+
 -- what the definitions make of what is given
 unfoldable pub made : Given → Is
 made (interval level latitude) = number (longitudeInterval level (nearEdge latitude))
@@ -73,6 +81,7 @@ made (columns level latitude) = number (columnsOf level (nearEdge latitude))
 made (bytes level latitude) = number (cellBytes level (nearEdge latitude))
 made (checksum body) = octets (drop (length body) (sealed body))
 made (column k zs) = octets (drop (sumAt (length zs)) (columnOf k zs))
+made (edited body z) = octets (drop (wordAt 0) (storedIn (sealed body) onlyPost 0 z))
 made (nearest level up right northward eastward) =
     nearestIs (cellAt level up right) (southWest (cellAt level up right) (pos (up * degree + northward)) (pos (right * degree + eastward)))
 made (word w) = pick (wordAllowed true w) (postIs (postOf w)) refused
@@ -85,6 +94,10 @@ pub record Example : Type 0 where
 
 abbrev pub m : ℕ → Given → Is → Example
 m mark given is = record { mark = mark; given = given; is = is }
+
+-- the bytes of M9
+abbrev pub m9 : List ℕ
+m9 = 0xAA ∷ 0 ∷ 0 ∷ 0 ∷ 0 ∷ 0 ∷ 0 ∷ 0 ∷ 0x23 ∷ 0x28 ∷ []
 
 abbrev pub table : List Example
 table =
@@ -102,8 +115,8 @@ table =
     ∷ m 7 (word 0xAEE1) refused
     ∷ m 8 (word 0x8001) (metres (negℤ (pos 1)))
     ∷ m 8 (word 0xFFFF) void
-    ∷ m 9 (checksum (0xAA ∷ 0 ∷ 0 ∷ 0 ∷ 0 ∷ 0 ∷ 0 ∷ 0 ∷ 0x23 ∷ 0x28 ∷ [])) (octets (0 ∷ 0 ∷ 0 ∷ 0xF5 ∷ []))
-    ∷ m 10 (checksum (0xAA ∷ 0 ∷ 0 ∷ 0 ∷ 0 ∷ 0 ∷ 0 ∷ 0 ∷ 0x80 ∷ 0x01 ∷ [])) (octets (0 ∷ 0 ∷ 1 ∷ 0x2B ∷ []))
+    ∷ m 9 (checksum m9) (octets (0 ∷ 0 ∷ 0 ∷ 0xF5 ∷ []))
+    ∷ m 10 (edited m9 (negℤ (pos 1))) (octets (0x80 ∷ 0x01 ∷ 0 ∷ 0 ∷ 1 ∷ 0x2B ∷ []))
     ∷ m 11 (column 300 (replicate 1201 (pos 0))) (octets (0 ∷ 0 ∷ 1 ∷ 4 ∷ []))
     ∷ m 12 (nearest 1 46 7 15 46) (post 2 0)
     ∷ []

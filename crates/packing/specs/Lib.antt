@@ -1,2 +1,3 @@
 -- An answer as one number.
 pub mod Packed
+pub mod Apart

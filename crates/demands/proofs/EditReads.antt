@@ -1,0 +1,86 @@
+-- E2 over the calls' own promises, inner and exported: after an accepted edit of a cell a lookup of its post tells what was given, and a lookup of
+-- any other post what a lookup told before.
+use Prim.Native.Nat.{ℕ, _<_}
+use mathlib.Core.Path.{_≡_, refl, sym, ap, _∙_}
+use mathlib.Core.Bool.{true}
+use mathlib.Core.List.{List}
+use lib.IntN.{ℤ}
+use lib.ListN.{getD}
+use contract.Lifetimes as L
+use denote.Ref.{now}
+use borrow.Fn.Kinds as K
+use Rattle.answers.specs.Told.{Told, told, act}
+use Rattle.answers.specs.Told as telling
+use Rattle.answers.specs.declared.Outcome.the-variants.{Done}
+use Rattle.answers.proofs.Injective.{told-injective}
+use Rattle.packing.specs.Packed.{packed}
+use Rattle.packing.specs.Apart.{toldIn}
+use Rattle.reading.specs.Cell.{Cell}
+use Rattle.reaching.specs.Lookup.{lookedUp}
+use Rattle.writing.specs.Grid.{saidOf}
+use Rattle.editing.specs.Edit.{judgedEdit, editTold, edited}
+use Rattle.editing.proofs.EditExactly.{accepted-exactly}
+use Rattle.editing.proofs.LookupAfter.{edited-post, other-post}
+use Rattle.editing.proofs.edit.edit.Reads as edit
+use Rattle.editing.proofs.edit.edit.Kinds as edit-kinds
+use Rattle.reaching.proofs.lookup.look_up.Reads as look-up
+use Rattle.reaching.proofs.lookup.look_up.Kinds as look-up-kinds
+use Rattle.dted.proofs.cells.dted_edit.Reads as host-edit
+use Rattle.dted.proofs.cells.dted_edit.Kinds as host-edit-kinds
+use Rattle.dted.proofs.cells.dted_post.Reads as host-post
+use Rattle.dted.proofs.cells.dted_post.Kinds as host-post-kinds
+use Rattle.demands.proofs.HostAnswers.{was-done}
+use Rattle.demands.proofs.HostTold.{post-told}
+
+-- after an edit that was judged done: what is told of its post, and of any other
+module _ (l : List ℕ) (cell : Cell l) (bytes : (i : ℕ) → getD l i 0 < 256) (c p : ℕ) (z : ℤ) (e : judgedEdit l c p z ≡ Done) where
+  own-told : lookedUp (edited l c p z) c p ≡ saidOf z
+  own-told = let it = accepted-exactly l c p z .0 e in let on = it .0 .on in edited-post l cell bytes c p (on .column) (on .post) z (it .1)
+
+  other-told : (k i : ℕ) → (k ≡ c → i ≡ p → ⊥) → lookedUp (edited l c p z) k i ≡ lookedUp l k i
+  other-told k i other = let it = accepted-exactly l c p z .0 e in let on = it .0 .on in other-post l cell bytes c p (on .column) (on .post) z (it .1) k i other
+
+-- a call of the edit that keeps its promise and was done
+module _ (κs : L.Lfts 1) (a : K.Dens κs edit-kinds.ps) (r : _) (s : _) (kept : edit.Post κs a r s) (was : r ≡ Done)
+    (cell : Cell (now (a .0))) (bytes : (i : ℕ) → getD (now (a .0)) i 0 < 256) where
+  judged-done : judgedEdit (now (a .0)) (a .1 .0) (a .1 .1 .0) (a .1 .1 .1 .0) ≡ Done
+  unfolding editTold
+  judged-done = sym (told-injective act r _ (kept .0)) ∙ was
+
+  -- a lookup of its post afterwards
+  pub edited-answered : (κs' : L.Lfts 1) (b : K.Dens κs' look-up-kinds.ps) (q : _) (t : _) → look-up.Post κs' b q t
+      → now (b .0) ≡ now (s .0) → b .1 .0 ≡ a .1 .0 → b .1 .1 .0 ≡ a .1 .1 .0 → told telling.post q ≡ saidOf (a .1 .1 .1 .0)
+  edited-answered κs' b q t kept' same c p =
+      kept' ∙ (λ k. lookedUp (same k) (c k) (p k)) ∙ ap (λ (m : List ℕ). lookedUp m (a .1 .0) (a .1 .1 .0)) (kept .1)
+      ∙ own-told (now (a .0)) cell bytes (a .1 .0) (a .1 .1 .0) (a .1 .1 .1 .0) judged-done
+
+  -- lookups of another post, before and afterwards
+  pub others-answered : (κs' κs'' : L.Lfts 1) (b : K.Dens κs' look-up-kinds.ps) (b' : K.Dens κs'' look-up-kinds.ps) (q q' : _) (t t' : _)
+      → look-up.Post κs' b q t → look-up.Post κs'' b' q' t' → now (b .0) ≡ now (a .0) → now (b' .0) ≡ now (s .0)
+      → b' .1 .0 ≡ b .1 .0 → b' .1 .1 .0 ≡ b .1 .1 .0 → (b .1 .0 ≡ a .1 .0 → b .1 .1 .0 ≡ a .1 .1 .0 → ⊥) → q' ≡ q
+  others-answered κs' κs'' b b' q q' t t' before after at-first at-last c p other =
+      told-injective telling.post q' q
+      (after ∙ (λ k. lookedUp (at-last k) (c k) (p k)) ∙ ap (λ (m : List ℕ). lookedUp m (b .1 .0) (b .1 .1 .0)) (kept .1)
+      ∙ other-told (now (a .0)) cell bytes (a .1 .0) (a .1 .1 .0) (a .1 .1 .1 .0) judged-done (b .1 .0) (b .1 .1 .0) other
+      ∙ sym (before ∙ ap (λ (m : List ℕ). lookedUp m (b .1 .0) (b .1 .1 .0)) at-first))
+
+-- the same for a C host: the edit answered 0
+module _ (κs : L.Lfts 1) (a : K.Dens κs host-edit-kinds.ps) (r : _) (s : _) (kept : host-edit.Post κs a r s) (was : r ≡ 0)
+    (cell : Cell (now (a .0))) (bytes : (i : ℕ) → getD (now (a .0)) i 0 < 256) where
+  host-judged-done : judgedEdit (now (a .0)) (a .1 .0) (a .1 .1 .0) (a .1 .1 .1 .0) ≡ Done
+  unfolding editTold
+  host-judged-done = was-done (judgedEdit (now (a .0)) (a .1 .0) (a .1 .1 .0) (a .1 .1 .1 .0)) (sym (kept .0) ∙ was)
+
+  pub host-edited-answered : (κs' : L.Lfts 1) (b : K.Dens κs' host-post-kinds.ps) (q : _) (t : _) → host-post.Post κs' b q t
+      → now (b .0) ≡ now (s .0) → b .1 .0 ≡ a .1 .0 → b .1 .1 .0 ≡ a .1 .1 .0 → toldIn telling.post q ≡ saidOf (a .1 .1 .1 .0)
+  host-edited-answered κs' b q t kept' same c p =
+      post-told κs' b q t kept' ∙ (λ k. lookedUp (same k) (c k) (p k)) ∙ ap (λ (m : List ℕ). lookedUp m (a .1 .0) (a .1 .1 .0)) (kept .1)
+      ∙ own-told (now (a .0)) cell bytes (a .1 .0) (a .1 .1 .0) (a .1 .1 .1 .0) host-judged-done
+
+  pub host-others-answered : (κs' κs'' : L.Lfts 1) (b : K.Dens κs' host-post-kinds.ps) (b' : K.Dens κs'' host-post-kinds.ps) (q q' : _) (t t' : _)
+      → host-post.Post κs' b q t → host-post.Post κs'' b' q' t' → now (b .0) ≡ now (a .0) → now (b' .0) ≡ now (s .0)
+      → b' .1 .0 ≡ b .1 .0 → b' .1 .1 .0 ≡ b .1 .1 .0 → (b .1 .0 ≡ a .1 .0 → b .1 .1 .0 ≡ a .1 .1 .0 → ⊥) → q' ≡ q
+  host-others-answered κs' κs'' b b' q q' t t' before after at-first at-last c p other =
+      after ∙ (λ k. packed (lookedUp (at-last k) (c k) (p k))) ∙ ap (λ (m : List ℕ). packed (lookedUp m (b .1 .0) (b .1 .1 .0))) (kept .1)
+      ∙ ap packed (other-told (now (a .0)) cell bytes (a .1 .0) (a .1 .1 .0) (a .1 .1 .1 .0) host-judged-done (b .1 .0) (b .1 .1 .0) other)
+      ∙ sym (before ∙ ap (λ (m : List ℕ). packed (lookedUp m (b .1 .0) (b .1 .1 .0))) at-first)

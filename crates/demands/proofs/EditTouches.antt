@@ -1,0 +1,38 @@
+-- E3 over the edit's own promise, and over the exported call's: an edit touches at most six bytes, those of its post and of its column's checksum.
+use Prim.Native.Nat.{ℕ}
+use mathlib.Core.Path.{_≡_, sym, subst}
+use mathlib.Core.List.{List}
+use lib.IntN.{ℤ}
+use lib.ListN.{length, getD}
+use contract.Lifetimes as L
+use denote.Ref.{now}
+use borrow.Fn.Kinds as K
+use Rattle.storing.proofs.StoredBytes.{NoneOf}
+use Rattle.editing.specs.Edit.{edited}
+use Rattle.editing.proofs.SixBytes.{postAt, checksumAt, same-length, six-bytes}
+use Rattle.editing.proofs.edit.edit.Reads as edit
+use Rattle.editing.proofs.edit.edit.Kinds as edit-kinds
+use Rattle.dted.proofs.cells.dted_edit.Reads as host-edit
+use Rattle.dted.proofs.cells.dted_edit.Kinds as host-edit-kinds
+
+-- the bytes after an edit are as many as before, and each that is none of the six is as it was
+pub record Touched (l after : List ℕ) (c p : ℕ) (z : ℤ) : Type 0 where
+  pub long : length after ≡ length l
+  pub others : (i : ℕ) → NoneOf (postAt l c p z) 2 i → NoneOf (checksumAt l c p z) 4 i → getD after i 0 ≡ getD l i 0
+
+touched : (l : List ℕ) (c p : ℕ) (z : ℤ) → Touched l (edited l c p z) c p z
+touched l c p z = record { long = same-length l c p z; others = six-bytes l c p z }
+
+pub edit-touches : (κs : L.Lfts 1) (a : K.Dens κs edit-kinds.ps) (r : _) (s : _) → edit.Post κs a r s
+    → Touched (now (a .0)) (now (s .0)) (a .1 .0) (a .1 .1 .0) (a .1 .1 .1 .0)
+edit-touches κs a r s kept =
+    let l = now (a .0) in
+    let z = a .1 .1 .1 .0 in
+    subst (λ (m : List ℕ). Touched l m (a .1 .0) (a .1 .1 .0) z) (sym (kept .1)) (touched l (a .1 .0) (a .1 .1 .0) z)
+
+pub host-edit-touches : (κs : L.Lfts 1) (a : K.Dens κs host-edit-kinds.ps) (r : _) (s : _) → host-edit.Post κs a r s
+    → Touched (now (a .0)) (now (s .0)) (a .1 .0) (a .1 .1 .0) (a .1 .1 .1 .0)
+host-edit-touches κs a r s kept =
+    let l = now (a .0) in
+    let z = a .1 .1 .1 .0 in
+    subst (λ (m : List ℕ). Touched l m (a .1 .0) (a .1 .1 .0) z) (sym (kept .1)) (touched l (a .1 .0) (a .1 .1 .0) z)

@@ -1,0 +1,142 @@
+-- D2 and L2 over the lookups' own promises, inner and exported: each post of an accepted cell is answered as one height in range or as
+-- void, by its number and by a position; and the headers and the post's column alone decide.
+use Prim.Native.Nat.{ℕ, _/_, _%_, _<_, _≤_}
+use mathlib.Core.Path.{_≡_, sym, ap, subst, _∙_}
+use mathlib.Core.Bool.{Bool}
+use mathlib.Core.List.{List}
+use lib.IntN.{ℤ}
+use lib.ListN.{length, take}
+use contract.Lifetimes as L
+use denote.Ref.{now}
+use borrow.Fn.Kinds as K
+use Rattle.answers.specs.Told.{Told, told}
+use Rattle.answers.specs.Told as telling
+use Rattle.answers.proofs.Injective.{told-injective}
+use Rattle.packing.specs.Packed.{packed}
+use Rattle.packing.specs.Apart.{toldIn}
+use Rattle.layout.specs.Grid.{headerBytes}
+use Rattle.posts.specs.Words.{postOf}
+use Rattle.posts.specs.declared.Post.{Post}
+use Rattle.posts.proofs.Readings.{Reads}
+use Rattle.headers.specs.Judged.{factsIn, voidsAllowed}
+use Rattle.headers.proofs.Exactly.{follows-good}
+use Rattle.columns.specs.Column.{wordIn}
+use Rattle.reading.specs.Cell.{columnAt, Cell}
+use Rattle.reading.proofs.CellExactly.{post-reads, column-whole}
+use Rattle.reaching.specs.Lookup.{postReads, lookedUp}
+use Rattle.reaching.specs.declared.reach.Reached.{Reached}
+use Rattle.reaching.proofs.LookupLaws.{post-found, same-post}
+use Rattle.reaching.proofs.ReachedExactly.{endIn, good, given}
+use Rattle.locating.specs.Position.{nearest, saidAt, readAt, located}
+use Rattle.locating.specs.declared.position.Along.the-variants.{On}
+use Rattle.locating.proofs.Nearest.{AsNear}
+use Rattle.locating.proofs.PositionExactly.{northOf, eastOf, nearest-answered}
+use Rattle.writing.proofs.OwnGrid.{cell-facts}
+use Rattle.reaching.proofs.lookup.look_up.Reads as look-up
+use Rattle.reaching.proofs.lookup.look_up.Kinds as look-up-kinds
+use Rattle.locating.proofs.position.locate.Reads as locate
+use Rattle.locating.proofs.position.locate.Kinds as locate-kinds
+use Rattle.dted.proofs.cells.dted_post.Reads as host-post
+use Rattle.dted.proofs.cells.dted_post.Kinds as host-post-kinds
+use Rattle.dted.proofs.cells.dted_position.Reads as host-position
+use Rattle.dted.proofs.cells.dted_position.Kinds as host-position-kinds
+use Rattle.demands.proofs.HostTold.{post-told, position-told}
+
+-- what is told is a height in range, or void where voids are allowed
+pub record Answered (voids : Bool) (t : Told) : Type 0 where
+  pub post : Post
+  pub reads : Reads voids post
+  pub said : t ≡ told telling.post (postReads post)
+
+-- so for the post nearest a position that lies so far north and east of the cell's corner
+pub record AnsweredNear (l : List ℕ) (north east : ℕ) (t : Told) : Type 0 where
+  pub column : ℕ
+  pub number : ℕ
+  pub post : Post
+  pub reads : Reads (voidsAllowed (factsIn l)) post
+  pub said : t ≡ saidAt column number (postReads post)
+  pub by-column : (j : ℕ) → AsNear east (factsIn l .grid .interval .longitude) column j
+  pub by-number : (j : ℕ) → AsNear north (factsIn l .grid .interval .latitude) number j
+
+post-answered-so : (l : List ℕ) → Cell l → (c p : ℕ) → c < factsIn l .grid .columns → p < factsIn l .grid .posts
+    → Answered (voidsAllowed (factsIn l)) (lookedUp l c p)
+post-answered-so l cell c p hc hp = record {
+  post = postOf (wordIn (columnAt l (factsIn l .grid) c) p);
+  reads = post-reads l cell c p hc hp;
+  said = post-found l cell c p hc hp;
+}
+
+position-answered-so : (l : List ℕ) → Cell l → (latitude longitude : ℤ) (north east : ℕ)
+    → northOf (factsIn l) latitude ≡ On north → eastOf (factsIn l) longitude ≡ On east → AnsweredNear l north east (located l latitude longitude)
+position-answered-so l cell latitude longitude north east n e =
+    let f = factsIn l in
+    let dx = f .grid .interval .longitude in
+    let dy = f .grid .interval .latitude in
+    let c = nearest dx (east / dx) (east % dx) in
+    let p = nearest dy (north / dy) (north % dy) in
+    let near = nearest-answered l latitude longitude f (follows-good l (cell .headers)) north east n e in
+    let whole = column-whole l (f .grid) c (cell-facts l cell .grid) (cell .long) (near .on-columns) in
+    let there =
+    given l c p _ (good (record { headers = cell .headers; column = near .on-columns; post = near .on-posts }) whole (cell .columns c (near .on-columns)))
+    in
+    record {
+      column = c;
+      number = p;
+      post = postOf (wordIn (columnAt l (f .grid) c) p);
+      reads = post-reads l cell c p (near .on-columns) (near .on-posts);
+      said = near .answered ∙ ap (readAt c p) there;
+      by-column = near .by-column;
+      by-number = near .by-post;
+    }
+
+-- two cells with the same headers and the same column c, each holding it whole
+pub record Alike (l m : List ℕ) (c : ℕ) : Type 0 where
+  pub long : (headerBytes ≤ length l) × (headerBytes ≤ length m)
+  pub headers : take headerBytes l ≡ take headerBytes m
+  pub whole : (endIn l c ≤ length l) × (endIn l c ≤ length m)
+  pub column : columnAt l (factsIn l .grid) c ≡ columnAt m (factsIn l .grid) c
+
+alike-told : (l m : List ℕ) (c p : ℕ) → Alike l m c → lookedUp l c p ≡ lookedUp m c p
+alike-told l m c p k = same-post l m c p (k .long .0) (k .long .1) (k .headers) (k .whole .0) (k .whole .1) (k .column)
+
+-- lookup by column and number
+pub post-answered : (κs : L.Lfts 1) (a : K.Dens κs look-up-kinds.ps) (r : _) (s : _) → look-up.Post κs a r s → Cell (now (a .0))
+    → a .1 .0 < factsIn (now (a .0)) .grid .columns → a .1 .1 .0 < factsIn (now (a .0)) .grid .posts
+    → Answered (voidsAllowed (factsIn (now (a .0)))) (told telling.post r)
+post-answered κs a r s kept cell hc hp =
+    subst (Answered (voidsAllowed (factsIn (now (a .0))))) (sym kept) (post-answered-so (now (a .0)) cell (a .1 .0) (a .1 .1 .0) hc hp)
+
+pub post-local : (κs κs' : L.Lfts 1) (a : K.Dens κs look-up-kinds.ps) (b : K.Dens κs' look-up-kinds.ps) (r q : _) (s t : _)
+    → look-up.Post κs a r s → look-up.Post κs' b q t → a .1 .0 ≡ b .1 .0 → a .1 .1 .0 ≡ b .1 .1 .0
+    → Alike (now (a .0)) (now (b .0)) (a .1 .0) → r ≡ q
+post-local κs κs' a b r q s t kept kept' c p alike =
+    told-injective telling.post r q
+    (kept ∙ alike-told (now (a .0)) (now (b .0)) (a .1 .0) (a .1 .1 .0) alike ∙ (λ k. lookedUp (now (b .0)) (c k) (p k)) ∙ sym kept')
+
+-- lookup of a position
+pub position-answered : (κs : L.Lfts 1) (a : K.Dens κs locate-kinds.ps) (r : _) (s : _) → locate.Post κs a r s → Cell (now (a .0)) → (north east : ℕ)
+    → northOf (factsIn (now (a .0))) (a .1 .0) ≡ On north → eastOf (factsIn (now (a .0))) (a .1 .1 .0) ≡ On east
+    → AnsweredNear (now (a .0)) north east (told telling.position r)
+position-answered κs a r s kept cell north east n e =
+    subst (AnsweredNear (now (a .0)) north east) (sym kept) (position-answered-so (now (a .0)) cell (a .1 .0) (a .1 .1 .0) north east n e)
+
+-- the exported calls: what their answers say, taken apart
+pub host-post-answered : (κs : L.Lfts 1) (a : K.Dens κs host-post-kinds.ps) (r : _) (s : _) → host-post.Post κs a r s → Cell (now (a .0))
+    → a .1 .0 < factsIn (now (a .0)) .grid .columns → a .1 .1 .0 < factsIn (now (a .0)) .grid .posts
+    → Answered (voidsAllowed (factsIn (now (a .0)))) (toldIn telling.post r)
+host-post-answered κs a r s kept cell hc hp =
+    subst (Answered (voidsAllowed (factsIn (now (a .0))))) (sym (post-told κs a r s kept))
+    (post-answered-so (now (a .0)) cell (a .1 .0) (a .1 .1 .0) hc hp)
+
+pub host-post-local : (κs κs' : L.Lfts 1) (a : K.Dens κs host-post-kinds.ps) (b : K.Dens κs' host-post-kinds.ps) (r q : _) (s t : _)
+    → host-post.Post κs a r s → host-post.Post κs' b q t → a .1 .0 ≡ b .1 .0 → a .1 .1 .0 ≡ b .1 .1 .0
+    → Alike (now (a .0)) (now (b .0)) (a .1 .0) → r ≡ q
+host-post-local κs κs' a b r q s t kept kept' c p alike =
+    kept ∙ ap packed (alike-told (now (a .0)) (now (b .0)) (a .1 .0) (a .1 .1 .0) alike) ∙ (λ k. packed (lookedUp (now (b .0)) (c k) (p k))) ∙ sym kept'
+
+pub host-position-answered : (κs : L.Lfts 1) (a : K.Dens κs host-position-kinds.ps) (r : _) (s : _) → host-position.Post κs a r s → Cell (now (a .0))
+    → (north east : ℕ) → northOf (factsIn (now (a .0))) (a .1 .0) ≡ On north → eastOf (factsIn (now (a .0))) (a .1 .1 .0) ≡ On east
+    → AnsweredNear (now (a .0)) north east (toldIn telling.position r)
+host-position-answered κs a r s kept cell north east n e =
+    subst (AnsweredNear (now (a .0)) north east) (sym (position-told κs a r s kept))
+    (position-answered-so (now (a .0)) cell (a .1 .0) (a .1 .1 .0) north east n e)

@@ -1,0 +1,147 @@
+-- N15, D1 over the calls' own promises, inner and exported: a refused call changes no byte that it was lent.
+use Prim.Native.Nat.{ℕ, _<_}
+use native.Mathlib.Omega.{arith}
+use mathlib.Core.Path.{_≡_, refl, sym, ap, subst, _∙_}
+use mathlib.Core.List.{List}
+use lib.IntN.{ℤ}
+use lib.ListN.{length}
+use contract.Lifetimes as L
+use denote.Ref.{now}
+use borrow.Fn.Kinds as K
+use Rattle.answers.specs.Told.{Told, numberTold, told, act}
+use Rattle.answers.specs.declared.Outcome.{Outcome}
+use Rattle.answers.specs.declared.Outcome.the-variants.{Done, Refused}
+use Rattle.packing.specs.Packed.{packed}
+use Rattle.packing.specs.Apart.{numberIn, Fits}
+use Rattle.packing.proofs.TakenApart.{number-told}
+use Rattle.describing.specs.Described.{described}
+use Rattle.describing.specs.declared.Described.{Described}
+use Rattle.describing.specs.declared.Described.the-variants as describing
+use Rattle.streaming.specs.Given.{outputAfter}
+use Rattle.streaming.specs.Column.{judgedColumn, columnTold, columnOutput}
+use Rattle.columns.specs.Column.{columnOf}
+use Rattle.writing.specs.Cell.{judgedCell, cellOf, cellTold, cellOutput}
+use Rattle.wording.specs.Words.{heightsIn}
+use Rattle.numbering.specs.Items.{descriptionOf}
+use Rattle.hosting.specs.Cell.{judgedBytes, bytesTold, bytesOutput}
+use Rattle.hosting.specs.Column.{judgedColumnBytes, columnBytesTold, columnBytesOutput}
+use Rattle.editing.specs.Edit.{judgedEdit, editTold, edited}
+use Rattle.editing.proofs.EditExactly.{refused-leaves}
+use Rattle.dted.specs.Description.{saidOfDescribed, itemsAfter}
+use Rattle.editing.proofs.edit.edit.Reads as edit
+use Rattle.editing.proofs.edit.edit.Kinds as edit-kinds
+use Rattle.writing.proofs.cell.write.Reads as write
+use Rattle.writing.proofs.cell.write.Kinds as write-kinds
+use Rattle.streaming.proofs.column.write.Reads as write-column
+use Rattle.streaming.proofs.column.write.Kinds as write-column-kinds
+use Rattle.hosting.proofs.cell.write.Reads as write-bytes
+use Rattle.hosting.proofs.cell.write.Kinds as write-bytes-kinds
+use Rattle.hosting.proofs.column.write.Reads as write-column-bytes
+use Rattle.hosting.proofs.column.write.Kinds as write-column-bytes-kinds
+use Rattle.dted.proofs.cells.dted_edit.Reads as host-edit
+use Rattle.dted.proofs.cells.dted_edit.Kinds as host-edit-kinds
+use Rattle.dted.proofs.descriptions.dted_describe.Reads as host-describe
+use Rattle.dted.proofs.descriptions.dted_describe.Kinds as host-describe-kinds
+use Rattle.dted.proofs.writers.dted_write.Reads as host-write
+use Rattle.dted.proofs.writers.dted_write.Kinds as host-write-kinds
+use Rattle.dted.proofs.writers.dted_write_column.Reads as host-write-column
+use Rattle.dted.proofs.writers.dted_write_column.Kinds as host-write-column-kinds
+use Rattle.demands.proofs.PlacesFit.{edit-fits}
+use Rattle.demands.proofs.HostFits.{write-fits, write-column-fits, describe-fits}
+
+-- where what is told has a number, the bytes are as they were
+abbrev Leaves : {A : Type 0} → Told → List A → List A → Type 0
+Leaves t before after = 0 < numberTold t → after ≡ before
+
+-- so after a call that promises to tell this and to leave that; its answer may be this number
+told-so : {A : Type 0} (t u : Told) (before left after : List A) → u ≡ t → after ≡ left → Leaves t before left → Leaves u before after
+told-so t u before left after e f leaves some = f ∙ leaves (subst (λ (x : Told). 0 < numberTold x) e some)
+
+packed-so : {A : Type 0} (t : Told) (r : ℕ) (before left after : List A) → Fits t → r ≡ packed t → after ≡ left → Leaves t before left
+    → 0 < numberIn r → after ≡ before
+packed-so t r before left after fits e f leaves some = f ∙ leaves (subst (λ (n : ℕ). 0 < n) (ap numberIn e ∙ number-told t fits) some)
+
+-- by what was judged
+output-leaves : (x : Outcome) (written out : List ℕ) → Leaves (told act x) out (outputAfter x written out)
+output-leaves Done written out some = absurd (omega arith)
+output-leaves (Refused r) written out some = refl
+
+edit-by : (l : List ℕ) (c p : ℕ) (z : ℤ) (x : Outcome) → judgedEdit l c p z ≡ x → Leaves (told act x) l (edited l c p z)
+edit-by l c p z Done e some = absurd (omega arith)
+edit-by l c p z (Refused r) e some = refused-leaves l c p z r e
+
+items-leaves : (x : Described) (items : List ℤ) → Leaves (saidOfDescribed x) items (itemsAfter x items)
+items-leaves (describing.As d) items some = absurd (omega arith)
+items-leaves (describing.Refused r) items some = refl
+
+edit-leaves : (l : List ℕ) (c p : ℕ) (z : ℤ) → Leaves (editTold l c p z) l (edited l c p z)
+unfolding editTold
+edit-leaves l c p z = edit-by l c p z (judgedEdit l c p z) refl
+
+bytes-leaves : (items : List ℤ) (grid out : List ℕ) → Leaves (bytesTold items grid out) out (bytesOutput items grid out)
+unfolding bytesTold bytesOutput
+bytes-leaves items grid out = output-leaves (judgedBytes items grid (length out)) (cellOf (descriptionOf items) (heightsIn grid)) out
+
+column-bytes-leaves : (level number : ℕ) (posts out : List ℕ) → Leaves (columnBytesTold level number posts out) out (columnBytesOutput level number posts out)
+unfolding columnBytesTold columnBytesOutput
+column-bytes-leaves level number posts out = output-leaves (judgedColumnBytes level number posts (length out)) (columnOf number (heightsIn posts)) out
+
+-- the inner calls
+pub edit-refused : (κs : L.Lfts 1) (a : K.Dens κs edit-kinds.ps) (r : _) (s : _) → edit.Post κs a r s
+    → 0 < numberTold (told act r) → now (s .0) ≡ now (a .0)
+edit-refused κs a r s kept = told-so _ (told act r) _ _ _ (kept .0) (kept .1) (edit-leaves (now (a .0)) (a .1 .0) (a .1 .1 .0) (a .1 .1 .1 .0))
+
+pub write-refused : (κs : L.Lfts 2) (a : K.Dens κs write-kinds.ps) (r : _) (s : _) → write.Post κs a r s
+    → 0 < numberTold (told act r) → now (s .0) ≡ now (a .0)
+unfolding cellTold cellOutput
+write-refused κs a r s kept =
+    let d = a .1 .0 in
+    let zs = now (a .1 .1 .0) in
+    let out = now (a .0) in
+    told-so _ (told act r) _ _ _ (kept .0) (kept .1) (output-leaves (judgedCell d zs (length out)) (cellOf d zs) out)
+
+pub write-column-refused : (κs : L.Lfts 2) (a : K.Dens κs write-column-kinds.ps) (r : _) (s : _) → write-column.Post κs a r s
+    → 0 < numberTold (told act r) → now (s .0) ≡ now (a .0)
+unfolding columnTold columnOutput
+write-column-refused κs a r s kept =
+    let k = a .1 .1 .0 in
+    let zs = now (a .1 .1 .1 .0) in
+    let out = now (a .0) in
+    told-so _ (told act r) _ _ _ (kept .0) (kept .1) (output-leaves (judgedColumn (a .1 .0) k zs (length out)) (columnOf k zs) out)
+
+pub write-bytes-refused : (κs : L.Lfts 3) (a : K.Dens κs write-bytes-kinds.ps) (r : _) (s : _) → write-bytes.Post κs a r s
+    → 0 < numberTold (told act r) → now (s .0) ≡ now (a .0)
+write-bytes-refused κs a r s kept =
+    told-so _ (told act r) _ _ _ (kept .0) (kept .1) (bytes-leaves (now (a .1 .0)) (now (a .1 .1 .0)) (now (a .0)))
+
+pub write-column-bytes-refused : (κs : L.Lfts 2) (a : K.Dens κs write-column-bytes-kinds.ps) (r : _) (s : _) → write-column-bytes.Post κs a r s
+    → 0 < numberTold (told act r) → now (s .0) ≡ now (a .0)
+write-column-bytes-refused κs a r s kept =
+    told-so _ (told act r) _ _ _ (kept .0) (kept .1) (column-bytes-leaves (a .1 .0) (a .1 .1 .0) (now (a .1 .1 .1 .0)) (now (a .0)))
+
+-- the exported calls
+pub host-edit-refused : (κs : L.Lfts 1) (a : K.Dens κs host-edit-kinds.ps) (r : _) (s : _) → host-edit.Post κs a r s
+    → 0 < numberIn r → now (s .0) ≡ now (a .0)
+host-edit-refused κs a r s kept =
+    let l = now (a .0) in
+    let z = a .1 .1 .1 .0 in
+    packed-so _ r _ _ _ (edit-fits l (a .1 .0) (a .1 .1 .0) z) (kept .0) (kept .1) (edit-leaves l (a .1 .0) (a .1 .1 .0) z)
+
+pub host-describe-refused : (κs : L.Lfts 2) (a : K.Dens κs host-describe-kinds.ps) (r : _) (s : _) → host-describe.Post κs a r s
+    → 0 < numberIn r → now (s .1 .0) ≡ now (a .1 .0)
+host-describe-refused κs a r s kept =
+    packed-so _ r _ _ _ (describe-fits (now (a .0))) (kept .0) (kept .1) (items-leaves (described (now (a .0))) (now (a .1 .0)))
+
+pub host-write-refused : (κs : L.Lfts 3) (a : K.Dens κs host-write-kinds.ps) (r : _) (s : _) → host-write.Post κs a r s
+    → 0 < numberIn r → now (s .0) ≡ now (a .0)
+host-write-refused κs a r s kept =
+    let items = now (a .1 .0) in
+    let grid = now (a .1 .1 .0) in
+    packed-so _ r _ _ _ (write-fits items grid (now (a .0))) (kept .0) (kept .1) (bytes-leaves items grid (now (a .0)))
+
+pub host-write-column-refused : (κs : L.Lfts 2) (a : K.Dens κs host-write-column-kinds.ps) (r : _) (s : _) → host-write-column.Post κs a r s
+    → 0 < numberIn r → now (s .0) ≡ now (a .0)
+host-write-column-refused κs a r s kept =
+    let k = a .1 .1 .0 in
+    let posts = now (a .1 .1 .1 .0) in
+    packed-so _ r _ _ _ (write-column-fits (a .1 .0) k posts (now (a .0))) (kept .0) (kept .1) (column-bytes-leaves (a .1 .0) k posts (now (a .0)))

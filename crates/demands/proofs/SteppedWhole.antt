@@ -1,0 +1,49 @@
+-- S6 over the steps' own promises: calls of `step`, from a new state on, fed with a file cut at its column edges, end with what a call of intake
+-- answers of the whole.
+use Prim.Native.Nat.{ℕ}
+use mathlib.Core.Path.{_≡_, sym, ap, subst, _∙_}
+use mathlib.Core.List.{List, [], _∷_}
+use lib.ListN.{take}
+use contract.Lifetimes as L
+use denote.Ref.{now}
+use borrow.Fn.Kinds as K
+use Rattle.answers.specs.declared.Verdict.{Verdict}
+use Rattle.answers.specs.Told as telling
+use Rattle.answers.proofs.Injective.{told-injective}
+use Rattle.layout.specs.Grid.{headerBytes}
+use Rattle.headers.specs.Judged.{factsIn}
+use Rattle.reading.specs.Intake.{taken}
+use Rattle.reading.proofs.intake.intake.Reads as intake
+use Rattle.reading.proofs.intake.intake.Kinds as intake-kinds
+use Rattle.stepping.specs.Steps.{Fed, firstPiece, laterPieces}
+use Rattle.stepping.specs.declared.steps.Phase.{Phase}
+use Rattle.stepping.proofs.StepsWhole.{steps-whole}
+use Rattle.stepping.proofs.steps.Steps.new.Reads as new
+use Rattle.stepping.proofs.steps.Steps.new.Kinds as new-kinds
+use Rattle.stepping.proofs.steps.Steps.step.Reads as step
+use Rattle.stepping.proofs.steps.Steps.step.Kinds as step-kinds
+
+-- calls of `step`, each of which keeps its promise and is handed the state that the one before gave back, take these pieces; the last answers w
+pub data Steps : Phase → List ℕ → List (List ℕ) → Verdict → Type 1 where
+  last : (κs : L.Lfts 1) (a : K.Dens κs step-kinds.ps) (r : _) (s : _) → step.Pre κs a → step.Post κs a r s → Steps (a .0 .phase) (now (a .1 .0)) [] (r .answer)
+  then : {piece : List ℕ} {pieces : List (List ℕ)} {w : Verdict} (κs : L.Lfts 1) (a : K.Dens κs step-kinds.ps) (r : _) (s : _)
+      → step.Pre κs a → step.Post κs a r s → Steps (r .steps .phase) piece pieces w → Steps (a .0 .phase) (now (a .1 .0)) (piece ∷ pieces) w
+
+fed : {phase : Phase} {piece : List ℕ} {pieces : List (List ℕ)} {w : Verdict} → Steps phase piece pieces w → Fed phase piece pieces w
+fed (last κs a r s asked kept) = kept .said
+fed (then {piece = piece} {pieces = pieces} {w = w} κs a r s asked kept rest) =
+    (r .answer, (kept .said, subst (λ (phase : Phase). Fed phase piece pieces w) (kept .state) (fed rest)))
+
+-- the pieces of a file after its headers: a column each, then the rest
+abbrev pub firstColumn : List ℕ → List ℕ
+firstColumn l = firstPiece l (factsIn l .grid) 0 (factsIn l .grid .columns)
+
+abbrev pub laterColumns : List ℕ → List (List ℕ)
+laterColumns l = laterPieces l (factsIn l .grid) 0 (factsIn l .grid .columns)
+
+pub stepped-whole : (l : List ℕ) (κ₀ : L.Lfts 0) (b : K.Dens κ₀ new-kinds.ps) (fresh : _) (t : _) → new.Post κ₀ b fresh t
+    → (w : Verdict) → Steps (fresh .phase) (take headerBytes l) (firstColumn l ∷ laterColumns l) w
+    → (κs : L.Lfts 1) (a : K.Dens κs intake-kinds.ps) (v : _) (s : _) → intake.Post κs a v s → now (a .0) ≡ l → w ≡ v
+stepped-whole l κ₀ b fresh t new-kept w calls κs a v s kept same =
+    let begun = subst (λ (phase : Phase). Fed phase (take headerBytes l) (firstColumn l ∷ laterColumns l) w) new-kept (fed calls) in
+    told-injective telling.intake w v (steps-whole l w begun ∙ sym (kept ∙ ap taken same))
