@@ -1,12 +1,12 @@
 -- What a C host's writers, description reader and grid tell fits the bits of a packed answer too (rule B1).
-use Prim.Native.Nat.{ℕ, zero, suc, _<_, _≤_}
+use Prim.Native.Nat.{ℕ, _≤_}
 use native.Mathlib.Omega.{arith}
-use mathlib.Core.Path.{_≡_, refl, sym}
-use mathlib.Core.Bool.{Bool, true, false, false≢true}
-use mathlib.Core.List.{List, [], _∷_}
+use mathlib.Core.Path.{_≡_, refl}
+use mathlib.Core.Bool.{Bool, true}
+use mathlib.Core.List.{List}
 use lib.Dec.{lit<}
 use lib.IntN.{ℤ}
-use lib.ListN.{length, getD}
+use lib.ListN.{length}
 use Rattle.answers.specs.Told.{told, act}
 use Rattle.answers.specs.declared.Outcome.{Outcome}
 use Rattle.packing.specs.Apart.{Fits}
@@ -21,6 +21,7 @@ use Rattle.layout.specs.declared.Laid.the-variants.{Out, NoLevel, NoZone}
 use Rattle.layout.proofs.Ranges.{ranged, laid-out}
 use Rattle.describing.specs.Described.{describedBy, described}
 use Rattle.describing.specs.Facts.{factsFor}
+use Rattle.describing.proofs.RangedItems.{failed-below}
 use Rattle.writing.specs.Cell.{postsDue}
 use Rattle.writing.proofs.GridDue.{due-ranged}
 use Rattle.writing.proofs.Joined.{parts-small}
@@ -35,12 +36,6 @@ use Rattle.numbering.proofs.ItemNumbers.{number-exactly, in-range}
 use Rattle.dted.specs.Grid.{saidOfLaid, gridTold}
 use Rattle.dted.specs.Description.{saidOfDescribed}
 use Rattle.demands.proofs.PlacesFit.{most, small-fits, headers-fit, given-fits, number-fits}
-
--- a test that fails is one of the list
-failed-below : (ts : List Bool) (n : ℕ) → getD ts n true ≡ false → n < length ts
-failed-below [] n e = absurd (false≢true (sym e))
-failed-below (t ∷ ts) zero e = omega arith
-failed-below (t ∷ ts) (suc n) e = omega (arith, failed-below ts n e)
 
 bytes-by : (posts bytes : ℕ) (voids : Bool) (given : List ℕ) (room : ℕ) → posts ≤ most → bytes ≤ most
     → (x : Outcome) → BytesRow posts bytes voids given room x → Fits (told act x)

@@ -2,7 +2,7 @@
 use Prim.Native.Nat.{ℕ, zero, suc, _+_, _<_, _≤_}
 use native.Mathlib.Numerals.{add-one}
 use native.Mathlib.Omega.{arith}
-use mathlib.Core.Path.{_≡_, refl, _∙_}
+use mathlib.Core.Path.{_≡_, refl, sym, _∙_}
 use mathlib.Core.Bool.{Bool, true, false, false≢true}
 use mathlib.Core.List.{List, [], _∷_}
 use lib.Dec.{leb}
@@ -11,13 +11,13 @@ use lib.Seq.{drop-cons}
 use borrow.Author.Tests.{ltb-true, leb-true}
 use Rattle.octets.specs.Choice.{pick}
 use Rattle.octets.specs.Tests.{every}
-use Rattle.octets.proofs.TestLaws.{each-true}
 use Rattle.octets.proofs.ChoiceLaws.{both-true}
 use Rattle.rules.specs.Rules.{isLetter, isVersion}
-use Rattle.describing.specs.Items.{accuracyRanged, itemTests, firstFailed, badItem, inRange, accuracyFor}
+use Rattle.describing.specs.Items.{accuracyRanged, accuracyFor, itemTest, itemTests, firstFailed, badItem, inRange}
 use Rattle.describing.specs.declared.Description.{Description}
 use Rattle.fields.specs.declared.Whose.{Whose}
-use Rattle.fields.specs.declared.Whose.the-variants as whose
+use Rattle.describing.specs.ItemTable.{Item, level, originLatitude, originLongitude, securityLetter, edition, matchVersion, accuracy, partialIndicator}
+use Rattle.describing.proofs.ItemOrder.{each-item}
 
 pub record RangedItems (d : Description) : Type 0 where
   pub level : d .level < 3
@@ -30,29 +30,21 @@ pub record RangedItems (d : Description) : Type 0 where
   pub accuracy : (w : Whose) → accuracyRanged (accuracyFor w d) ≡ true
   pub partial : d .partial ≤ 99
 
-accuracy-ranged : (d : Description) → inRange d ≡ true → (w : Whose) → accuracyRanged (accuracyFor w d) ≡ true
-unfolding itemTests
-accuracy-ranged d e whose.Uhl = each-true (itemTests d) e 7
-accuracy-ranged d e whose.AbsoluteHorizontal = each-true (itemTests d) e 8
-accuracy-ranged d e whose.AbsoluteVertical = each-true (itemTests d) e 9
-accuracy-ranged d e whose.RelativeHorizontal = each-true (itemTests d) e 10
-accuracy-ranged d e whose.RelativeVertical = each-true (itemTests d) e 11
-
 pub ranged-items : (d : Description) → inRange d ≡ true → RangedItems d
 unfolding itemTests
 ranged-items d e =
-    let held : (k : ℕ) → getD (itemTests d) k true ≡ true = each-true (itemTests d) e in
-    let edition = both-true (leb 1 (d .edition)) (leb (d .edition) 99) (held 4) in
+    let held : (i : Item) → itemTest d i ≡ true = each-item (itemTest d) e in
+    let edition = both-true (leb 1 (d .edition)) (leb (d .edition) 99) (held edition) in
     record {
-      level = ltb-true (d .level) 3 (held 0);
-      latitude = ltb-true (d .latitude) 180 (held 1);
-      longitude = ltb-true (d .longitude) 360 (held 2);
-      security = held 3;
+      level = ltb-true (d .level) 3 (held level);
+      latitude = ltb-true (d .latitude) 180 (held originLatitude);
+      longitude = ltb-true (d .longitude) 360 (held originLongitude);
+      security = held securityLetter;
       edition-low = leb-true 1 (d .edition) (edition .0);
       edition-high = leb-true (d .edition) 99 (edition .1);
-      version = held 5;
-      accuracy = accuracy-ranged d e;
-      partial = leb-true (d .partial) 99 (held 12);
+      version = held matchVersion;
+      accuracy = λ w. held (accuracy w);
+      partial = leb-true (d .partial) 99 (held partialIndicator);
     }
 
 -- a search for a failed test: at the next test, and at the end
@@ -106,6 +98,20 @@ lowest n (true ∷ ts) (suc k) h e =
     (next .0, before ts k (next .1))
 lowest n (false ∷ ts) zero h e = (refl, λ k l. absurd (omega arith))
 lowest n (false ∷ ts) (suc k) h e = absurd (omega arith)
+
+pub first-lowest : (m : ℕ) (ts : List Bool) (n : ℕ) → Lowest ts n → firstFailed m ts ≡ m + n
+unfolding firstFailed
+first-lowest m [] n low = absurd (false≢true (sym (low .0)))
+first-lowest m (true ∷ ts) zero low = absurd (false≢true (sym (low .0)))
+first-lowest m (true ∷ ts) (suc n) low = first-lowest (m + 1) ts n (low .0, λ k h. low .1 (suc k) (omega arith)) ∙ omega arith
+first-lowest m (false ∷ ts) zero low = omega arith
+first-lowest m (false ∷ ts) (suc n) low = absurd (false≢true (low .1 0 (omega arith)))
+
+-- a test that fails is one of the list's
+pub failed-below : (ts : List Bool) (n : ℕ) → getD ts n true ≡ false → n < length ts
+failed-below [] n e = absurd (false≢true (sym e))
+failed-below (t ∷ ts) zero e = omega arith
+failed-below (t ∷ ts) (suc n) e = omega (arith, failed-below ts n e)
 
 -- the first failed test is numbered 0 exactly where every test holds, and else it is the lowest that does not
 pub first-exactly : (ts : List Bool)

@@ -1,27 +1,29 @@
 -- The writers for a C host promise what the writers over heights promise (rules B1 and B2), so every law of those holds of these.
-use Prim.Native.Nat.{ℕ, _*_}
+use Prim.Native.Nat.{ℕ, zero, suc, _*_}
 use native.Mathlib.Omega.{arith}
-use mathlib.Core.Path.{_≡_, ap}
-use mathlib.Core.Bool.{true}
+use mathlib.Core.Path.{_≡_, refl, sym, ap, _∙_}
 use mathlib.Core.List.{List}
 use lib.IntN.{ℤ}
 use lib.ListN.{length}
 use Rattle.answers.specs.Told.{told, act}
 use Rattle.answers.specs.declared.Outcome.{Outcome}
 use Rattle.layout.specs.Levels.{postsOf}
-use Rattle.describing.specs.Items.{inRange}
+use Rattle.describing.specs.Items.{badItem}
 use Rattle.describing.specs.Facts.{factsFor}
 use Rattle.describing.specs.declared.Description.{Description}
 use Rattle.columns.specs.Column.{columnOf}
 use Rattle.streaming.specs.Given.{outputAfter}
-use Rattle.writing.specs.Cell.{postsDue, cellOf, cellTold, cellOutput}
+use Rattle.writing.specs.Cell.{postsDue, judgedCell, cellOf, cellTold, cellOutput}
+use Rattle.writing.proofs.ItemExactly.{found-bad}
+use Rattle.writing.proofs.CellExactly.{judgedThen}
 use Rattle.streaming.specs.Column.{columnTold, columnOutput}
 use Rattle.wording.specs.Words.{heightsIn, bytesFor}
 use Rattle.numbering.specs.Items.{badNumber, descriptionOf, numbersOf}
-use Rattle.hosting.specs.Cell.{bytesTold, bytesOutput}
+use Rattle.hosting.specs.Cell.{judgedUnder, judgedBytes, bytesTold, bytesOutput}
 use Rattle.hosting.specs.Column.{columnBytesTold, columnBytesOutput}
 use Rattle.wording.proofs.HeightBytes.{Words, heights-back, length-bytes-for}
-use Rattle.numbering.proofs.ItemNumbers.{numbers-back, numbers-ranged}
+use Rattle.numbering.proofs.ItemNumbers.{numbers-back}
+use Rattle.numbering.proofs.TestsAlike.{items-alike}
 use Rattle.hosting.proofs.BytesExactly as cell
 use Rattle.hosting.proofs.ColumnBytesExactly as column
 
@@ -42,10 +44,24 @@ column-same level number posts out e =
     let same = column.even-agrees level number posts (length out) e in
     (ap (told act) same, ap (λ (x : Outcome). outputAfter x (columnOf number (heightsIn posts)) out) same)
 
--- so a host can have any description in range written with any heights of 16 bits
-pub any-cell : (d : Description) → inRange d ≡ true → (zs : List ℤ) → length zs ≡ postsDue (factsFor d .grid) → Words zs → (out : List ℕ)
+-- a description with an item out of range: both name the same item, whatever else is given
+pub same-item : (d : Description) → (badItem d ≡ 0 → ⊥) → (zs : List ℤ) (grid out : List ℕ)
+    → (bytesTold (numbersOf d) grid out ≡ cellTold d zs out) × (bytesOutput (numbersOf d) grid out ≡ cellOutput d zs out)
+unfolding bytesTold bytesOutput cellTold cellOutput judgedBytes judgedCell
+same-item d bad zs grid out =
+    let ours = found-bad (badItem d) (badNumber (numbersOf d)) (judgedUnder (descriptionOf (numbersOf d)) grid (length out)) (sym (items-alike d)) bad in
+    let theirs = found-bad (badItem d) (badItem d) (judgedThen d zs (length out)) refl bad in
+    (ap (told act) (sym ours ∙ theirs), rw (sym ours, sym theirs))
+
+-- so a host can have any description written with any heights of 16 bits, and is answered as the writer over heights answers
+any-by : (d : Description) (zs : List ℤ) → length zs ≡ postsDue (factsFor d .grid) → Words zs → (out : List ℕ) (n : ℕ) → badItem d ≡ n
     → (bytesTold (numbersOf d) (bytesFor zs) out ≡ cellTold d zs out) × (bytesOutput (numbersOf d) (bytesFor zs) out ≡ cellOutput d zs out)
-any-cell d e zs h w out =
+any-by d zs h w out zero e =
     let long = length-bytes-for zs in
     rw (numbers-back d, heights-back zs w) at
-    (cell-same (numbersOf d) (bytesFor zs) out (numbers-ranged d e) (rw (numbers-back d) (omega arith)))
+    (cell-same (numbersOf d) (bytesFor zs) out (items-alike d ∙ e) (rw (numbers-back d) (omega arith)))
+any-by d zs h w out (suc n) e = same-item d (λ q. omega (arith, e, q)) zs (bytesFor zs) out
+
+pub any-cell : (d : Description) (zs : List ℤ) → length zs ≡ postsDue (factsFor d .grid) → Words zs → (out : List ℕ)
+    → (bytesTold (numbersOf d) (bytesFor zs) out ≡ cellTold d zs out) × (bytesOutput (numbersOf d) (bytesFor zs) out ≡ cellOutput d zs out)
+any-cell d zs h w out = any-by d zs h w out (badItem d) refl

@@ -120,11 +120,3 @@ difference-back a (suc b) =
     (λ m.
     let e : ltb (suc b) (suc (suc b - suc a)) ≡ false = le-ltb (suc b) (suc (suc b - suc a)) (omega arith) in
     rw (lt-ltb a (suc b) m, e) (ap pos (omega arith)))
-
--- and it lies in its axis' range
-pub difference-between : (side a : ℕ) → 0 < side → a < 2 * side → between (negℤ (pos side)) (pos (side - 1)) (pos a -ℤ pos side) ≡ true
-difference-between zero a h k = absurd (omega arith)
-difference-between (suc s) a h k =
-    by-order (suc s) a
-    (λ m. rw (le-ltb a (suc s) m) (le-leb (a - suc s) (suc s - 1) (omega arith)))
-    (λ m. rw (lt-ltb a (suc s) m, le-leb (suc s - suc a) s (omega arith)))

@@ -1,23 +1,28 @@
--- The items of a description as numbers, as a C host gives and gets them (rules W2 and B3): item n at index n - 1.
-use Prim.Native.Nat.{ℕ, _+_}
+-- The items of a description as numbers, as a C host gives and gets them (rules W2 and B3): item n of the items' table at index n - 1.
+use Prim.Native.Nat.{ℕ, _-_}
 use mathlib.Core.Bool.{Bool}
-use mathlib.Core.List.{List, [], _∷_}
+use mathlib.Core.List.{List, map}
 use lib.IntN.{ℤ, pos, negsuc, negℤ, _+ℤ_, _-ℤ_}
 use lib.ListN.{getD}
 use Rattle.octets.specs.Choice.{pick}
 use Rattle.octets.specs.Ranges.{between}
 use Rattle.rules.specs.Rules.{isLetter, isVersion}
+use Rattle.fields.specs.declared.Whose.the-variants.{Uhl, AbsoluteHorizontal, AbsoluteVertical, RelativeHorizontal, RelativeVertical}
+use Rattle.describing.specs.ItemTable.{Item, level, originLatitude, originLongitude, securityLetter, edition, matchVersion, verticalDatum, accuracy, partialIndicator, itemNumber, inOrder}
 use Rattle.describing.specs.Items.{firstFailed}
+use Rattle.describing.specs.Items as describing
 use Rattle.describing.specs.declared.Accuracy.{Accuracy}
 use Rattle.describing.specs.declared.Accuracy.the-variants.{Metres, Unknown}
-use Rattle.describing.specs.declared.Accuracies.{Accuracies}
 use Rattle.describing.specs.declared.Datum.{Datum}
 use Rattle.describing.specs.declared.Datum.the-variants.{Msl, E96}
 use Rattle.describing.specs.declared.Description.{Description}
 
--- W2: the item at an index; one that is not there counts as 0
+-- W2: the number at an index, and the one given for an item; one that is not there counts as 0
 abbrev pub item : List ℤ → ℕ → ℤ
-item zs i = getD zs i (pos 0)
+item zs k = getD zs k (pos 0)
+
+abbrev pub given : List ℤ → Item → ℤ
+given zs i = item zs (itemNumber i - 1)
 
 -- W2: this number alone
 abbrev pub is : ℤ → ℤ → Bool
@@ -32,23 +37,20 @@ abbrev pub counted : ℤ → ℕ
 counted (pos n) = n
 counted (negsuc n) = 0
 
--- W2: the tests of items 1 to 13
+-- W2: whether a number given for an item is in the item's range
+abbrev pub numberTest : Item → ℤ → Bool
+numberTest level z = between (pos 0) (pos 2) z
+numberTest originLatitude z = between (negℤ (pos 90)) (pos 89) z
+numberTest originLongitude z = between (negℤ (pos 180)) (pos 179) z
+numberTest securityLetter z = isLetter (counted z)
+numberTest edition z = between (pos 1) (pos 99) z
+numberTest matchVersion z = isVersion (counted z)
+numberTest verticalDatum z = between (pos 0) (pos 1) z
+numberTest (accuracy of) z = isAccuracy z
+numberTest partialIndicator z = between (pos 0) (pos 99) z
+
 unfoldable pub numberTests : List ℤ → List Bool
-numberTests zs =
-    between (pos 0) (pos 2) (item zs 0)
-    ∷ between (negℤ (pos 90)) (pos 89) (item zs 1)
-    ∷ between (negℤ (pos 180)) (pos 179) (item zs 2)
-    ∷ isLetter (counted (item zs 3))
-    ∷ between (pos 1) (pos 99) (item zs 4)
-    ∷ isVersion (counted (item zs 5))
-    ∷ between (pos 0) (pos 1) (item zs 6)
-    ∷ isAccuracy (item zs 7)
-    ∷ isAccuracy (item zs 8)
-    ∷ isAccuracy (item zs 9)
-    ∷ isAccuracy (item zs 10)
-    ∷ isAccuracy (item zs 11)
-    ∷ between (pos 0) (pos 99) (item zs 12)
-    ∷ []
+numberTests zs = map (λ (i : Item). numberTest i (given zs i)) inOrder
 
 -- W2, N9: the lowest item out of range, or 0
 abbrev pub badNumber : List ℤ → ℕ
@@ -62,23 +64,26 @@ abbrev pub accuracyFor : ℤ → Accuracy
 accuracyFor (pos n) = Metres n
 accuracyFor (negsuc n) = Unknown
 
-abbrev pub accuraciesFor : List ℤ → ℕ → Accuracies
-accuraciesFor zs i = record { horizontal = accuracyFor (item zs i); vertical = accuracyFor (item zs (i + 1)) }
-
 -- W2: the description that thirteen numbers say; latitudes are counted from 90 S, longitudes from 180 W
 unfoldable pub descriptionOf : List ℤ → Description
 descriptionOf zs = record {
-  level = counted (item zs 0);
-  latitude = counted (item zs 1 +ℤ pos 90);
-  longitude = counted (item zs 2 +ℤ pos 180);
-  security = counted (item zs 3);
-  edition = counted (item zs 4);
-  version = counted (item zs 5);
-  datum = datumFor (item zs 6);
-  uhl = accuracyFor (item zs 7);
-  absolute = accuraciesFor zs 8;
-  relative = accuraciesFor zs 10;
-  partial = counted (item zs 12);
+  level = counted (given zs level);
+  latitude = counted (given zs originLatitude +ℤ pos 90);
+  longitude = counted (given zs originLongitude +ℤ pos 180);
+  security = counted (given zs securityLetter);
+  edition = counted (given zs edition);
+  version = counted (given zs matchVersion);
+  datum = datumFor (given zs verticalDatum);
+  uhl = accuracyFor (given zs (accuracy Uhl));
+  absolute = record {
+    horizontal = accuracyFor (given zs (accuracy AbsoluteHorizontal));
+    vertical = accuracyFor (given zs (accuracy AbsoluteVertical));
+  };
+  relative = record {
+    horizontal = accuracyFor (given zs (accuracy RelativeHorizontal));
+    vertical = accuracyFor (given zs (accuracy RelativeVertical));
+  };
+  partial = counted (given zs partialIndicator);
 }
 
 -- W2: and the other way: -1 where an accuracy is not available, 0 for MSL and 1 for E96
@@ -90,19 +95,16 @@ abbrev pub accuracyNumber : Accuracy → ℤ
 accuracyNumber (Metres m) = pos m
 accuracyNumber Unknown = negℤ (pos 1)
 
+abbrev pub numberFor : Description → Item → ℤ
+numberFor d level = pos (d .level)
+numberFor d originLatitude = pos (d .latitude) -ℤ pos 90
+numberFor d originLongitude = pos (d .longitude) -ℤ pos 180
+numberFor d securityLetter = pos (d .security)
+numberFor d edition = pos (d .edition)
+numberFor d matchVersion = pos (d .version)
+numberFor d verticalDatum = datumNumber (d .datum)
+numberFor d (accuracy of) = accuracyNumber (describing.accuracyFor of d)
+numberFor d partialIndicator = pos (d .partial)
+
 unfoldable pub numbersOf : Description → List ℤ
-numbersOf d =
-    pos (d .level)
-    ∷ (pos (d .latitude) -ℤ pos 90)
-    ∷ (pos (d .longitude) -ℤ pos 180)
-    ∷ pos (d .security)
-    ∷ pos (d .edition)
-    ∷ pos (d .version)
-    ∷ datumNumber (d .datum)
-    ∷ accuracyNumber (d .uhl)
-    ∷ accuracyNumber (d .absolute .horizontal)
-    ∷ accuracyNumber (d .absolute .vertical)
-    ∷ accuracyNumber (d .relative .horizontal)
-    ∷ accuracyNumber (d .relative .vertical)
-    ∷ pos (d .partial)
-    ∷ []
+numbersOf d = map (numberFor d) inOrder

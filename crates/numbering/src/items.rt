@@ -1,12 +1,12 @@
 // The items of a description, given as numbers: ranged, and made a description.
 ghost use mathlib.Core.Path.{_≡_};
 ghost use mathlib.Core.Bool.{true};
-ghost use Prim.Native.Nat.{_+_, _-_, _<_, _≤_};
+ghost use Prim.Native.Nat.{_-_, _<_, _≤_};
 ghost use lib.IntN.{pos, negℤ, _+ℤ_};
 ghost use lib.Signed.{leZ};
 ghost use Rattle.rules.specs.Rules.{isLetter, isVersion};
 ghost use Rattle.octets.specs.Ranges.{between};
-ghost use Rattle.numbering.specs.Items.{item, isAccuracy, numberTests, badNumber, counted, datumFor, accuracyFor, accuraciesFor, descriptionOf};
+ghost use Rattle.numbering.specs.Items.{item, isAccuracy, numberTests, badNumber, counted, datumFor, accuracyFor, descriptionOf};
 use describing::Accuracies;
 use describing::Accuracy;
 use describing::Datum;
@@ -122,17 +122,6 @@ fn accuracy(items: &[i64; ITEMS], i: usize) -> Accuracy
     Accuracy::Metres(z as u16)
 }
 
-// Two accuracies, horizontal and then vertical.
-fn accuracies(items: &[i64; ITEMS], i: usize) -> Accuracies
-    requires { ⌜ (i < 12) × ((isAccuracy (item (now items) i) ≡ true) × (isAccuracy (item (now items) (i + 1)) ≡ true)) ⌝ }
-    ensures { λ r. ⌜ r ≡ accuraciesFor (now (items .entry)) i ⌝ }
-{
-    Accuracies {
-        horizontal: accuracy(items, i),
-        vertical: accuracy(items, i + 1),
-    }
-}
-
 // The description that numbers in range say.
 pub fn description(items: &[i64; ITEMS]) -> Description
     requires { ⌜ badNumber (now items) ≡ 0 ⌝ }
@@ -147,8 +136,14 @@ pub fn description(items: &[i64; ITEMS]) -> Description
         version: letter(items, 5),
         datum: datum(items),
         uhl: accuracy(items, 7),
-        absolute: accuracies(items, 8),
-        relative: accuracies(items, 10),
+        absolute: Accuracies {
+            horizontal: accuracy(items, 8),
+            vertical: accuracy(items, 9),
+        },
+        relative: Accuracies {
+            horizontal: accuracy(items, 10),
+            vertical: accuracy(items, 11),
+        },
         partial: count(items, 12),
     }
 }

@@ -1,16 +1,16 @@
 -- W1, N9, N14: 9 with the lowest item, else the rest: exactly the first row that holds is answered, where that is so of the rest.
-use Prim.Native.Nat.{ℕ, zero, suc, _+_}
+use Prim.Native.Nat.{ℕ, zero, suc}
 use native.Mathlib.Omega.{arith}
 use mathlib.Core.Path.{_≡_, refl, sym, ap, _∙_}
-use mathlib.Core.Bool.{Bool, true, false, false≢true}
-use mathlib.Core.List.{List, [], _∷_}
+use mathlib.Core.Bool.{Bool, true}
+use mathlib.Core.List.{List}
 use borrow.Author.Tests.{eq-eqb, ne-eqb}
 use Rattle.octets.specs.Tests.{every}
 use Rattle.answers.specs.declared.Refusal.the-variants.{Item}
 use Rattle.answers.specs.declared.Outcome.{Outcome}
 use Rattle.answers.specs.declared.Outcome.the-variants.{Done, Refused}
 use Rattle.describing.specs.Items.{firstFailed}
-use Rattle.describing.proofs.RangedItems.{Lowest, first-exactly}
+use Rattle.describing.proofs.RangedItems.{Lowest, first-lowest, first-exactly}
 use Rattle.writing.specs.Cell.{afterItem}
 
 module _ (bad : ℕ) (rest : Outcome) where
@@ -25,15 +25,6 @@ module _ (bad : ℕ) (rest : Outcome) where
 -- the same, by the number that was found
 pub found-bad : (n bad : ℕ) (rest : Outcome) → n ≡ bad → (n ≡ 0 → ⊥) → Refused (Item n) ≡ afterItem bad rest
 found-bad n bad rest e not-0 = sym (one-bad n rest not-0) ∙ ap (λ (m : ℕ). afterItem m rest) e
-
--- the lowest test that fails is the first
-first-lowest : (m : ℕ) (ts : List Bool) (n : ℕ) → Lowest ts n → firstFailed m ts ≡ m + n
-unfolding firstFailed
-first-lowest m [] n low = absurd (false≢true (sym (low .0)))
-first-lowest m (true ∷ ts) zero low = absurd (false≢true (sym (low .0)))
-first-lowest m (true ∷ ts) (suc n) low = first-lowest (m + 1) ts n (low .0, λ k h. low .1 (suc k) (omega arith)) ∙ omega arith
-first-lowest m (false ∷ ts) zero low = omega arith
-first-lowest m (false ∷ ts) (suc n) low = absurd (false≢true (low .1 0 (omega arith)))
 
 -- the rows in the call's order, each where it holds and none before it does
 pub data ItemRow (tests : List Bool) (Rest : Outcome → Type 0) : Outcome → Type 0 where

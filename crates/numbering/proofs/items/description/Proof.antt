@@ -1,75 +1,83 @@
 -- `description`: each item is in its range, and is what the definition makes of it.
 use Rattle.rules.specs.Rules.{isLetter, isVersion}
+use Rattle.fields.specs.declared.Whose.the-variants.{Uhl, AbsoluteHorizontal, AbsoluteVertical, RelativeHorizontal, RelativeVertical}
+use Rattle.describing.specs.ItemTable.{Item, level, originLatitude, originLongitude, securityLetter, edition, matchVersion, accuracy, partialIndicator}
 use Rattle.numbering.proofs.NumberRanges.{from-zero, letters, versions, passes-byte}
-use Rattle.numbering.proofs.RangedNumbers.{RangedNumbers, ranged-numbers}
+use Rattle.numbering.proofs.RangedNumbers.{ranged-numbers}
 use Rattle.numbering.proofs.items.description.Statement.{statement}
 use Rattle.numbering.proofs.items.description.Tie as tie
-use Rattle.numbering.specs.Items.{item, descriptionOf}
+use Rattle.numbering.specs.Items.{item, given, numberTest, descriptionOf}
 use borrow.Author.Needs.{needs}
+use mathlib.Core.Path.{_≡_}
+use mathlib.Core.Bool.{true}
 use native.Mathlib.Omega.{arith}
 
-within : (s : tie.Start) → RangedNumbers (s .args .items .now)
+within : (s : tie.Start) (i : Item) → numberTest i (given (s .args .items .now) i) ≡ true
 within s = ranged-numbers (s .args .items .now) (s .pre)
 
 count-requires : tie.Need-count-requires
-count-requires c κs = (omega arith, from-zero 0 2 (item (c .args .items .now) 0) (within c .level))
+count-requires c κs = (omega arith, from-zero 0 2 (item (c .args .items .now) 0) (within c level))
 
 angle-requires : tie.Need-angle-requires
-angle-requires c κs = (omega arith, ((omega arith, omega arith), within (c .before) .latitude))
+angle-requires c κs = (omega arith, ((omega arith, omega arith), within (c .before) originLatitude))
 
 angle-requires-2 : tie.Need-angle-requires-2
-angle-requires-2 c κs = (omega arith, ((omega arith, omega arith), within (c .before .before) .longitude))
+angle-requires-2 c κs = (omega arith, ((omega arith, omega arith), within (c .before .before) originLongitude))
 
 letter-requires : tie.Need-letter-requires
 letter-requires c κs =
     let s = c .before .before .before in
-    (omega arith, passes-byte isLetter letters (item (s .args .items .now) 3) (within s .security))
+    (omega arith, passes-byte isLetter letters (item (s .args .items .now) 3) (within s securityLetter))
 
 count-requires-2 : tie.Need-count-requires-2
 count-requires-2 c κs =
     let s = c .before .before .before .before in
-    (omega arith, from-zero 1 99 (item (s .args .items .now) 4) (within s .edition))
+    (omega arith, from-zero 1 99 (item (s .args .items .now) 4) (within s edition))
 
 letter-requires-2 : tie.Need-letter-requires-2
 letter-requires-2 c κs =
     let s = c .before .before .before .before .before in
-    (omega arith, passes-byte isVersion versions (item (s .args .items .now) 5) (within s .version))
+    (omega arith, passes-byte isVersion versions (item (s .args .items .now) 5) (within s matchVersion))
 
 datum-requires : tie.Need-datum-requires
 datum-requires c κs = search needs
 
 accuracy-requires : tie.Need-accuracy-requires
-accuracy-requires c κs = let s = c .before .before .before .before .before .before .before in (omega arith, within s .accuracy7)
+accuracy-requires c κs = let s = c .before .before .before .before .before .before .before in (omega arith, within s (accuracy Uhl))
 
-accuracies-requires : tie.Need-accuracies-requires
-accuracies-requires c κs =
-    let s = c .before .before .before .before .before .before .before .before in
-    (omega arith, (within s .accuracy8, within s .accuracy9))
+accuracy-requires-2 : tie.Need-accuracy-requires-2
+accuracy-requires-2 c κs = let s = c .before .before .before .before .before .before .before .before in (omega arith, within s (accuracy AbsoluteHorizontal))
 
-accuracies-requires-2 : tie.Need-accuracies-requires-2
-accuracies-requires-2 c κs =
-    let s = c .before .before .before .before .before .before .before .before .before in
-    (omega arith, (within s .accuracy10, within s .accuracy11))
+accuracy-requires-3 : tie.Need-accuracy-requires-3
+accuracy-requires-3 c κs = let s = c .before .before .before .before .before .before .before .before .before in (omega arith, within s (accuracy AbsoluteVertical))
+
+accuracy-requires-4 : tie.Need-accuracy-requires-4
+accuracy-requires-4 c κs = let s = c .before .before .before .before .before .before .before .before .before .before in (omega arith, within s (accuracy RelativeHorizontal))
+
+accuracy-requires-5 : tie.Need-accuracy-requires-5
+accuracy-requires-5 c κs = let s = c .before .before .before .before .before .before .before .before .before .before .before in (omega arith, within s (accuracy RelativeVertical))
 
 count-requires-3 : tie.Need-count-requires-3
 count-requires-3 c κs =
-    let s = c .before .before .before .before .before .before .before .before .before .before in
-    (omega arith, from-zero 0 99 (item (s .args .items .now) 12) (within s .partial))
+    let s = c .before .before .before .before .before .before .before .before .before .before .before .before in
+    (omega arith, from-zero 0 99 (item (s .args .items .now) 12) (within s partialIndicator))
 
 returns : tie.Need-returns
 unfolding descriptionOf
 returns c =
     rw (
-      c .before .before .before .before .before .before .before .before .before .before .count .ensures,
-      c .before .before .before .before .before .before .before .before .before .angle .ensures,
-      c .before .before .before .before .before .before .before .before .angle2 .ensures,
-      c .before .before .before .before .before .before .before .letter .ensures,
-      c .before .before .before .before .before .before .count2 .ensures,
-      c .before .before .before .before .before .letter2 .ensures,
-      c .before .before .before .before .datum .ensures,
-      c .before .before .before .accuracy .ensures,
-      c .before .before .accuracies .ensures,
-      c .before .accuracies2 .ensures,
+      c .before .before .before .before .before .before .before .before .before .before .before .before .count .ensures,
+      c .before .before .before .before .before .before .before .before .before .before .before .angle .ensures,
+      c .before .before .before .before .before .before .before .before .before .before .angle2 .ensures,
+      c .before .before .before .before .before .before .before .before .before .letter .ensures,
+      c .before .before .before .before .before .before .before .before .count2 .ensures,
+      c .before .before .before .before .before .before .before .letter2 .ensures,
+      c .before .before .before .before .before .before .datum .ensures,
+      c .before .before .before .before .before .accuracy .ensures,
+      c .before .before .before .before .accuracy2 .ensures,
+      c .before .before .before .accuracy3 .ensures,
+      c .before .before .accuracy4 .ensures,
+      c .before .accuracy5 .ensures,
       c .count3 .ensures,
     )
 
@@ -85,7 +93,9 @@ description-spec =
     letter-requires-2
     datum-requires
     accuracy-requires
-    accuracies-requires
-    accuracies-requires-2
+    accuracy-requires-2
+    accuracy-requires-3
+    accuracy-requires-4
+    accuracy-requires-5
     count-requires-3
     returns)

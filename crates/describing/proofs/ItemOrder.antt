@@ -1,0 +1,35 @@
+-- The items in the order of their numbers: they run from 1 to 13, and a list made along them has at each number what is that item's.
+use Prim.Native.Nat.{_-_}
+use mathlib.Core.Path.{_≡_, refl, sym, _∙_}
+use mathlib.Core.Bool.{Bool, true}
+use mathlib.Core.List.{[], _∷_, map}
+use lib.ListN.{getD}
+use Rattle.octets.specs.Tests.{every}
+use Rattle.octets.proofs.TestLaws.{each-true}
+use Rattle.fields.specs.declared.Whose.the-variants.{Uhl, AbsoluteHorizontal, AbsoluteVertical, RelativeHorizontal, RelativeVertical}
+use Rattle.describing.specs.ItemTable.{Item, level, originLatitude, originLongitude, securityLetter, edition, matchVersion, verticalDatum, accuracy, partialIndicator, itemNumber, inOrder}
+
+pub numbers-run : map itemNumber inOrder ≡ 1 ∷ 2 ∷ 3 ∷ 4 ∷ 5 ∷ 6 ∷ 7 ∷ 8 ∷ 9 ∷ 10 ∷ 11 ∷ 12 ∷ 13 ∷ []
+numbers-run = refl
+
+pub at-number : {A : Type 0} (f : Item → A) (x : A) (i : Item) → getD (map f inOrder) (itemNumber i - 1) x ≡ f i
+at-number f x level = refl
+at-number f x originLatitude = refl
+at-number f x originLongitude = refl
+at-number f x securityLetter = refl
+at-number f x edition = refl
+at-number f x matchVersion = refl
+at-number f x verticalDatum = refl
+at-number f x (accuracy Uhl) = refl
+at-number f x (accuracy AbsoluteHorizontal) = refl
+at-number f x (accuracy AbsoluteVertical) = refl
+at-number f x (accuracy RelativeHorizontal) = refl
+at-number f x (accuracy RelativeVertical) = refl
+at-number f x partialIndicator = refl
+
+-- a test holds all along the items where it holds of each
+pub all-items : (test : Item → Bool) → ((i : Item) → test i ≡ true) → every (map test inOrder) ≡ true
+all-items test held = λ k. every (map (λ (i : Item). held i k) inOrder)
+
+pub each-item : (test : Item → Bool) → every (map test inOrder) ≡ true → (i : Item) → test i ≡ true
+each-item test e i = sym (at-number test true i) ∙ each-true (map test inOrder) e (itemNumber i - 1)
