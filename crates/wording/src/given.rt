@@ -2,6 +2,7 @@
 ghost use mathlib.Core.Path.{_≡_};
 ghost use Prim.Native.Nat.{_+_, _*_, _<_, _≤_};
 ghost use lib.ListN.{length};
+ghost use Rattle.octets.specs.Pastes.{pasted};
 ghost use Rattle.columns.specs.Column.{columnOf};
 ghost use Rattle.streaming.specs.Given.{heightsThen, roomFor};
 ghost use Rattle.wording.specs.Words.{heightsIn};
@@ -41,10 +42,11 @@ pub fn judge_given(given: &[u8], voids: bool, posts: usize, bytes: usize, room: 
     judge_heights(given, posts, voids, bytes, room)
 }
 
-// Column `number` of these heights over bytes of its length; they pass through a buffer, of which nothing is kept.
+// Column `number` of these heights over bytes of its length; they pass through a buffer, and stay at its front.
 pub fn put_given(out: &mut [u8], buffer: &mut [i16], number: usize, given: &[u8], posts: usize)
     requires { ⌜ (length (now out) ≡ 12 + 2 * posts) × ((length (now given) ≡ 2 * posts) × ((posts ≤ length (now buffer)) × ((posts ≤ 3601) × (number < 65536)))) ⌝ }
     ensures { λ _. ⌜ now (out .exit) ≡ columnOf number (heightsIn (now (given .entry))) ⌝ }
+    ensures { λ _. ⌜ now (buffer .exit) ≡ pasted (now (buffer .entry)) 0 (heightsIn (now (given .entry))) ⌝ }
 {
     put_heights(buffer, given, posts);
     put_column(out, number, &buffer[..posts]);

@@ -116,7 +116,7 @@ loop-again c =
     let i = l .loop .inv in
     let zs = heightsIn (a .grid .now) in
     let column : q .put-given .last .0 ≡ columnOf (l .loop .k) (take (l .loop .k * a .posts + a .posts - l .loop .k * a .posts) (drop (l .loop .k * a .posts) zs)) =
-    q .put-given .ensures ∙ ap (columnOf (l .loop .k)) (heights-part (a .grid .now) (a .posts) (l .loop .k) (l .loop .from) (i .from-part))
+    q .put-given .ensures .0 ∙ ap (columnOf (l .loop .k)) (heights-part (a .grid .now) (a .posts) (l .loop .k) (l .loop .from) (i .from-part))
     in
     record {
       so-far =

@@ -1,4 +1,4 @@
--- `put_given`: the front of the buffer is the heights, and the column is theirs.
+-- `put_given`: the front of the buffer is the heights and stays so, and the column is theirs.
 use Rattle.columns.specs.Column.{columnOf}
 use Rattle.wording.proofs.HeightBytes.{length-heights, front-shown}
 use Rattle.wording.proofs.given.put_given.Statement.{statement}
@@ -46,7 +46,7 @@ returns : tie.Need-returns
 returns c =
     let p = c .before .before in
     let h = p .before .before .before .before in
-    p .put-column .ensures ∙ ap (columnOf (start h .args .number)) (front h)
+    (p .put-column .ensures ∙ ap (columnOf (start h .args .number)) (front h), h .put-heights .ensures)
 
 pub put-given-spec : {M : Type 1} → statement M
 put-given-spec =
