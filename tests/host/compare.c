@@ -439,6 +439,7 @@ int main(int count, char **texts) {
     both_open();
     catch_signals();
     run_fixed_cases();
+    run_literal_cases();
     for (uint64_t number = 0; number < cases; number++) {
         struct plan plan = plan_of(number);
         run_case(seeded_case, &plan);

@@ -16,4 +16,7 @@ void expect(const char *what, uint64_t library, uint64_t due);
 /* The cases that need no seed: the paper's examples, and every header byte and number in turn. */
 void run_fixed_cases(void);
 
+/* And those whose numbers are written out, over the stored cells. */
+void run_literal_cases(void);
+
 #endif
