@@ -2,7 +2,7 @@
 -- column's bytes; and the cell is its headers and the columns so put.
 use Prim.Native.Nat.{ℕ, zero, suc, _*_, _<_, _≤_}
 use native.Mathlib.Omega.{arith}
-use mathlib.Core.Path.{_≡_, refl, sym, ap, subst, _∙_}
+use mathlib.Core.Path.{_≡_, refl, sym, ap, _∙_}
 use mathlib.Core.List.{List, [], _++_}
 use lib.IntN.{ℤ}
 use lib.ListN.{length, getD, take, drop, length-drop, take-append-drop}
@@ -11,7 +11,6 @@ use contract.Lifetimes as L
 use denote.Ref.{now}
 use borrow.Fn.Kinds as K
 use Rattle.answers.specs.Told.{told, act}
-use Rattle.answers.specs.declared.Outcome.{Outcome}
 use Rattle.answers.specs.declared.Outcome.the-variants.{Done}
 use Rattle.answers.proofs.Injective.{told-injective}
 use Rattle.packing.specs.Packed.{packed}
@@ -20,11 +19,9 @@ use Rattle.layout.specs.Grid.{headerBytes}
 use Rattle.layout.specs.declared.Grid.{Grid}
 use Rattle.headers.specs.Judged.{factsIn}
 use Rattle.columns.specs.Column.{heightsFrom}
-use Rattle.reading.specs.Cell.{startOf, columnAt, Cell}
-use Rattle.reading.proofs.CellExactly.{column-whole}
+use Rattle.reading.specs.Cell.{columnAt, Cell}
 use Rattle.streaming.specs.Column.{columnTold, columnOutput}
 use Rattle.wording.specs.Words.{heightsIn}
-use Rattle.hosting.specs.Column.{columnBytesTold, columnBytesOutput}
 use Rattle.hosting.proofs.AsHeights.{column-same}
 use Rattle.writing.proofs.ByteReturn.{cell-of-level, return-done, byte-return}
 use Rattle.writing.proofs.Joined.{join-cut}

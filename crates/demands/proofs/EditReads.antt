@@ -1,15 +1,14 @@
 -- E2 over the calls' own promises, inner and exported: after an accepted edit of a cell a lookup of its post tells what was given, and a lookup of
 -- any other post what a lookup told before.
 use Prim.Native.Nat.{ℕ, _<_}
-use mathlib.Core.Path.{_≡_, refl, sym, ap, _∙_}
-use mathlib.Core.Bool.{true}
+use mathlib.Core.Path.{_≡_, sym, ap, _∙_}
 use mathlib.Core.List.{List}
 use lib.IntN.{ℤ}
 use lib.ListN.{getD}
 use contract.Lifetimes as L
 use denote.Ref.{now}
 use borrow.Fn.Kinds as K
-use Rattle.answers.specs.Told.{Told, told, act}
+use Rattle.answers.specs.Told.{told, act}
 use Rattle.answers.specs.Told as telling
 use Rattle.answers.specs.declared.Outcome.the-variants.{Done}
 use Rattle.answers.proofs.Injective.{told-injective}

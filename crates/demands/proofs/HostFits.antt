@@ -1,5 +1,5 @@
 -- What a C host's writers, description reader and grid tell fits the bits of a packed answer too (rule B1).
-use Prim.Native.Nat.{ℕ, _≤_}
+use Prim.Native.Nat.{ℕ, suc, _≤_}
 use native.Mathlib.Omega.{arith}
 use mathlib.Core.Path.{_≡_, refl}
 use mathlib.Core.Bool.{Bool, true}

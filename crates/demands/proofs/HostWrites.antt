@@ -13,6 +13,7 @@ use Rattle.answers.specs.declared.Outcome.the-variants.{Done}
 use Rattle.packing.specs.Packed.{packed}
 use Rattle.describing.specs.Described.{described}
 use Rattle.describing.specs.Facts.{factsFor}
+use Rattle.describing.specs.ItemTable.{Item}
 use Rattle.describing.specs.declared.Described.{Described}
 use Rattle.reading.specs.Intake.{taken}
 use Rattle.reaching.specs.Lookup.{lookedUp}
@@ -21,7 +22,7 @@ use Rattle.streaming.specs.Given.{outputAfter}
 use Rattle.writing.specs.Grid.{heightAt, saidOf}
 use Rattle.writing.proofs.Restores.{restored-description, restored-accepted, restored-post}
 use Rattle.wording.specs.Words.{heightsIn}
-use Rattle.numbering.specs.Items.{descriptionOf}
+use Rattle.numbering.specs.Items.{given, descriptionOf, numbersOf}
 use Rattle.hosting.specs.Cell.{judgedBytes, bytesTold, bytesOutput}
 use Rattle.hosting.proofs.BytesExactly.{Ready, ready}
 use Rattle.numbering.proofs.ItemNumbers.{in-range, description-back}
@@ -66,13 +67,16 @@ module _ (κs : L.Lfts 3) (a : K.Dens κs write-kinds.ps) (r : _) (s : _) (kept 
       kept' ∙ ap (λ (l : List ℕ). packed (taken l)) same
       ∙ ap packed (restored-accepted (descriptionOf items) (in-range items (fine .numbers)) heights (f .long) (f .held))
 
-  -- the thirteen numbers come back
-  pub described-back : length items ≡ 13 → (κs' : L.Lfts 2) (b : K.Dens κs' describe-kinds.ps) (q : _) (t : _) → now (b .0) ≡ cell → describe.Post κs' b q t
-      → now (t .1 .0) ≡ items
-  described-back thirteen κs' b q t same kept' =
+  -- the thirteen numbers come back, each in its item's place
+  pub described-back : (κs' : L.Lfts 2) (b : K.Dens κs' describe-kinds.ps) (q : _) (t : _) → now (b .0) ≡ cell → describe.Post κs' b q t
+      → (length (now (t .1 .0)) ≡ 13) × ((i : Item) → given (now (t .1 .0)) i ≡ given items i)
+  unfolding numbersOf
+  described-back κs' b q t same kept' =
+      let back : now (t .1 .0) ≡ numbersOf (descriptionOf items) =
       kept' .1 ∙ ap (λ (l : List ℕ). itemsAfter (described l) (now (b .1 .0))) same
       ∙ ap (λ (x : Described). itemsAfter x (now (b .1 .0))) (restored-description (descriptionOf items) (in-range items (fine .numbers)) heights)
-      ∙ description-back items thirteen (fine .numbers)
+      in
+      (ap length back, λ i. ap (λ (zs : List ℤ). given zs i) back ∙ description-back items (fine .numbers) i)
 
   pub posts-back : (κs' : L.Lfts 1) (b : K.Dens κs' post-kinds.ps) (q : _) (t : _) → now (b .0) ≡ cell → post.Post κs' b q t
       → b .1 .0 < factsFor (descriptionOf items) .grid .columns → b .1 .1 .0 < factsFor (descriptionOf items) .grid .posts

@@ -24,7 +24,6 @@ use Rattle.columns.specs.Column.{wordIn}
 use Rattle.reading.specs.Cell.{columnAt, Cell}
 use Rattle.reading.proofs.CellExactly.{post-reads, column-whole}
 use Rattle.reaching.specs.Lookup.{postReads, lookedUp}
-use Rattle.reaching.specs.declared.reach.Reached.{Reached}
 use Rattle.reaching.proofs.LookupLaws.{post-found, same-post}
 use Rattle.reaching.proofs.ReachedExactly.{endIn, good, given}
 use Rattle.locating.specs.Position.{nearest, saidAt, readAt, located}

@@ -1,26 +1,24 @@
 -- Items as numbers and as a description: in range both ways, and each gives the other back.
-use Prim.Native.Nat.{ℕ, zero, suc, _+_, _-_, _<_}
+use Prim.Native.Nat.{ℕ, zero, suc, _-_, _<_}
 use native.Mathlib.Omega.{arith}
 use mathlib.Core.Path.{_≡_, refl, sym, ap, _∙_}
 use mathlib.Core.Bool.{true, false≢true}
-use mathlib.Core.List.{List, [], _∷_, map}
+use mathlib.Core.List.{List}
 use lib.Dec.{leb}
 use lib.IntN.{ℤ, pos, negsuc, negℤ, _+ℤ_, _-ℤ_}
-use lib.ListN.{length, drop, drop-of-length-le}
-use lib.Seq.{drop-cons}
 use borrow.Author.Tests.{leb-true}
 use Rattle.octets.specs.Tests.{every}
 use Rattle.octets.proofs.ChoiceLaws.{both-true}
 use Rattle.rules.specs.Rules.{isLetter, isVersion}
 use Rattle.fields.specs.declared.Whose.the-variants as whose
-use Rattle.describing.specs.ItemTable.{Item, level, originLatitude, originLongitude, securityLetter, edition, matchVersion, verticalDatum, accuracy, partialIndicator, itemNumber, inOrder}
+use Rattle.describing.specs.ItemTable.{Item, level, originLatitude, originLongitude, securityLetter, edition, matchVersion, verticalDatum, accuracy, partialIndicator, itemNumber}
 use Rattle.describing.specs.Items.{itemTest, itemTests, inRange}
 use Rattle.describing.specs.declared.Accuracy.{Accuracy}
 use Rattle.describing.specs.declared.Accuracy.the-variants.{Metres, Unknown}
 use Rattle.describing.specs.declared.Datum.{Datum}
 use Rattle.describing.specs.declared.Datum.the-variants.{Msl, E96}
 use Rattle.describing.specs.declared.Description.{Description}
-use Rattle.describing.proofs.ItemOrder.{all-items}
+use Rattle.describing.proofs.ItemOrder.{at-number, all-items}
 use Rattle.describing.proofs.NamedItem.{LowestBad, named-exactly}
 use Rattle.describing.proofs.RangedItems.{Lowest, first-exactly}
 use Rattle.numbering.specs.Items as items
@@ -66,17 +64,6 @@ numbers-back d =
       accuracy-again (d .relative .vertical),
     )
 
--- thirteen numbers, one by one
-itemsFrom : List ℤ → ℕ → ℕ → List ℤ
-itemsFrom zs i zero = []
-itemsFrom zs i (suc n) = item zs i ∷ itemsFrom zs (suc i) n
-
-one-by-one : (zs : List ℤ) (i n : ℕ) → length zs ≡ i + n → drop i zs ≡ itemsFrom zs i n
-unfolding itemsFrom
-one-by-one zs i zero h = drop-of-length-le zs {i = i} (omega arith)
-one-by-one zs i (suc n) h =
-    drop-cons zs i (pos 0) (omega arith) ∙ ap (λ (l : List ℤ). item zs i ∷ l) (one-by-one zs (suc i) n (omega arith))
-
 -- numbers in range come back from their description
 counted-back : (low high : ℕ) (z : ℤ) → between (pos low) (pos high) z ≡ true → pos (counted z) ≡ z
 counted-back low high z e = let r = ranged low high z e in rw (r .is)
@@ -110,12 +97,9 @@ number-back zs e (accuracy whose.RelativeHorizontal) = accuracy-back _ (ranged-n
 number-back zs e (accuracy whose.RelativeVertical) = accuracy-back _ (ranged-numbers zs e (accuracy whose.RelativeVertical))
 number-back zs e partialIndicator = counted-back 0 99 (given zs partialIndicator) (ranged-numbers zs e partialIndicator)
 
-pub description-back : (zs : List ℤ) → length zs ≡ 13 → badNumber zs ≡ 0 → numbersOf (descriptionOf zs) ≡ zs
-unfolding numbersOf itemsFrom
-description-back zs h e =
-    let back : (i : Item) → numberFor (descriptionOf zs) i ≡ given zs i = number-back zs e in
-    let all : map (numberFor (descriptionOf zs)) inOrder ≡ itemsFrom zs 0 13 = λ k. map (λ (i : Item). back i k) inOrder in
-    all ∙ sym (one-by-one zs 0 13 h)
+pub description-back : (zs : List ℤ) → badNumber zs ≡ 0 → (i : Item) → given (numbersOf (descriptionOf zs)) i ≡ given zs i
+unfolding numbersOf
+description-back zs e i = at-number (numberFor (descriptionOf zs)) (pos 0) i ∙ number-back zs e i
 
 -- and say a description in range
 pub in-range : (zs : List ℤ) → badNumber zs ≡ 0 → inRange (descriptionOf zs) ≡ true
