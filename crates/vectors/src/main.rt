@@ -1,4 +1,4 @@
-// The examples that are run, not marked: whole cells streamed from the column writer, and intake of the cell on standard input, changed in known ways.
+// The examples that are run, not marked: whole cells streamed from the column writer, intake of the cell on standard input, changed in known ways, and the writer over heights.
 ghost use Prim.Native.Nat.{_<_};
 use describing::Accuracies;
 use describing::Accuracy;
@@ -6,7 +6,9 @@ use describing::Datum;
 use describing::Description;
 use layout::HEADER_BYTES;
 
+mod said;
 mod stream;
+mod writer;
 
 const INPUT: i32 = 0;
 
@@ -96,4 +98,5 @@ fn main() {
     judge(&cell, CELL);
     put_headers(&mut cell, description(0, 359, 7));
     judge(&cell, CELL);
+    writer::run();
 }

@@ -8,7 +8,7 @@ const PIECE: usize = 7214;
 const POSTS: usize = 3601;
 
 // Heights that differ from post to post and from column to column.
-fn put_heights(heights: &mut [i16], column: usize) {
+pub fn put_heights(heights: &mut [i16], column: usize) {
     let mut metres = column % 9001;
     let mut i = 0;
     while i < heights.len() {
