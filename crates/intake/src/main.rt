@@ -1,7 +1,10 @@
 // Judges the cell on standard input and prints one line: `accepted LEVEL COLUMNS POSTS` or `refused NO PLACE`.
 // It only feeds stepwise intake, a column at a time through one buffer; everything that is decided is decided there.
+ghost use mathlib.Core.Path.{_≡_};
 ghost use Prim.Native.Nat.{_≤_};
 ghost use lib.ListN.{length};
+ghost use Rattle.stepping.specs.Turns.{isFinal};
+ghost use Rattle.intake.specs.Found.{Settled};
 use answers::Verdict;
 use stepping::steps::Steps;
 
@@ -14,8 +17,11 @@ const ERRORS: i32 = 2;
 // The longest column of any level.
 const BUFFER: usize = 7214;
 
-// The headers, at most 3,601 columns, and what may follow.
-const PIECES: usize = 3603;
+// What the input was found to be.
+enum Found {
+    Answer(Verdict),
+    Unread,
+}
 
 // How much of a piece was read, and whether reading failed.
 struct Filled {
@@ -52,36 +58,53 @@ fn fill(buffer: &mut [u8], wanted: usize) -> Filled
     }
 }
 
-// Whether another piece is due.
-fn is_more(answer: Verdict) -> bool {
+// Whether no other piece is due.
+fn is_final(answer: Verdict) -> bool
+    ensures { λ r. ⌜ r ≡ isFinal answer ⌝ }
+{
     match answer {
-        Verdict::More => true,
+        Verdict::More => false,
         Verdict::Accepted {
             level: _,
             columns: _,
             posts: _,
-        } => false,
-        Verdict::Refused(_) => false,
+        } => true,
+        Verdict::Refused(_) => true,
     }
 }
 
-fn main() {
+// Feeds the input to steps until an answer is final; each "more" leaves fewer turns.
+fn take_input() -> Found
+    ensures { λ r. ⌜ Settled r ⌝ }
+{
     let mut buffer = [0u8; BUFFER];
     let mut steps = Steps::new();
-    for _ in 0..PIECES {
+    loop {
         let filled = fill(&mut buffer, steps.wanted());
         if filled.failed {
-            io::write_all(ERRORS, b"intake: standard input cannot be read\n");
-            return;
+            return Found::Unread;
         }
         let n = filled.bytes;
         let stepped = steps.step(&buffer[..n]);
         let answer = stepped.answer;
-        if !is_more(answer) {
-            printing::verdict(OUTPUT, answer);
-            return;
+        if is_final(answer) {
+            return Found::Answer(answer);
         }
         let later = stepped.steps;
         steps = later;
+    }
+}
+
+fn main() {
+    let found = take_input();
+    match found {
+        Found::Answer(answer) => {
+            if !printing::verdict(OUTPUT, answer) {
+                io::write_all(ERRORS, b"intake: standard output cannot be written\n");
+            }
+        }
+        Found::Unread => {
+            io::write_all(ERRORS, b"intake: standard input cannot be read\n");
+        }
     }
 }

@@ -54,7 +54,7 @@ ended-not-more long g e =
     (λ t. refused-not-more 7 (g .bytes .cell) (rw t at e))
 
 -- "more" is said of a column that is due, and so the next number is small
-below-columns : (g : Grid) (voids : Bool) (k : ℕ) (piece : List ℕ) → saidOfColumn g voids k piece ≡ more → k < g .columns
+pub below-columns : (g : Grid) (voids : Bool) (k : ℕ) (piece : List ℕ) → saidOfColumn g voids k piece ≡ more → k < g .columns
 below-columns g voids k piece e =
     by-order (g .columns) k
     (λ h. absurd (ended-not-more (g .bytes .cell + length piece) g (sym (piece-past g voids k piece h) ∙ e)))

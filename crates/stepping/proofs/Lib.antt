@@ -3,3 +3,4 @@ pub mod Pieces
 pub mod Kept
 pub mod StepByStep
 pub mod StepsWhole
+pub mod TurnsLeft

@@ -1,2 +1,3 @@
--- What each step of intake answers of a piece, and the state after it.
+-- What each step of intake answers of a piece, the state after it, and the turns up to a final answer.
 pub mod Steps
+pub mod Turns

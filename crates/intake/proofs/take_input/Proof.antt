@@ -1,24 +1,26 @@
--- `main`: the buffer keeps its length, and the pieces run out.
-use Prim.Native.Nat.{_-_, _≤_}
-use Rattle.intake.proofs.main.Statement.{statement}
-use Rattle.intake.proofs.main.Tie as tie
+-- `take_input`: steps go on from a state that "more" led to, with fewer turns left each time.
+use Prim.Native.Nat.{_≤_}
+use Rattle.stepping.specs.Turns.{Going, new, turnsLeft}
+use Rattle.stepping.proofs.TurnsLeft.{step-going, step-less}
 use borrow.Author.Needs.{needs}
 use lib.ListN.{length}
 use lib.Seq.{length-take-le}
-use mathlib.Core.Path.{_≡_, sym}
+use mathlib.Core.Path.{_≡_, refl, sym, _∙_}
 use native.Mathlib.Omega.{arith}
+use Rattle.intake.proofs.take_input.Statement.{statement}
+use Rattle.intake.proofs.take_input.Tie as tie
 
 abbrev Inv-loop : tie.InvT-loop
-Inv-loop buffer₀ steps₀ t8 counter₀ buffer steps counter = (counter ≤ 3603) × (length buffer ≡ 7214)
+Inv-loop buffer₀ steps₀ buffer steps = (length buffer ≡ 7214) × Going (steps .phase)
 
 abbrev μ-loop : tie.MeasureT-loop
-μ-loop buffer₀ steps₀ t8 counter₀ buffer steps counter = 3603 - counter
+μ-loop buffer₀ steps₀ buffer steps = turnsLeft (steps .phase)
 
 new-requires : tie.Need-new-requires Inv-loop μ-loop
 new-requires c κs = search needs
 
 loop-holds : tie.Need-loop-holds Inv-loop μ-loop
-loop-holds c = search needs
+loop-holds c = (refl, rw (c .new .ensures) new)
 
 slice-aggregate-fill : tie.Need-slice-aggregate-fill Inv-loop μ-loop
 slice-aggregate-fill c = search needs
@@ -28,12 +30,6 @@ wanted-requires c κs = search needs
 
 fill-requires : tie.Need-fill-requires Inv-loop μ-loop
 fill-requires c κs = search needs
-
-slice-aggregate-write-all : tie.Need-slice-aggregate-write-all Inv-loop μ-loop
-slice-aggregate-write-all c = search needs
-
-write-all-requires : tie.Need-write-all-requires Inv-loop μ-loop
-write-all-requires c κs = search needs
 
 returns : tie.Need-returns Inv-loop μ-loop
 returns c = search needs
@@ -47,29 +43,29 @@ slice-aggregate-step c = sym (length-take-le _ _ (omega arith))
 step-requires : tie.Need-step-requires Inv-loop μ-loop
 step-requires c κs = search needs
 
-is-more-requires : tie.Need-is-more-requires Inv-loop μ-loop
-is-more-requires c κs = search needs
-
-verdict-requires : tie.Need-verdict-requires Inv-loop μ-loop
-verdict-requires c κs = search needs
+is-final-requires : tie.Need-is-final-requires Inv-loop μ-loop
+is-final-requires c κs = search needs
 
 returns-2 : tie.Need-returns-2 Inv-loop μ-loop
-returns-2 c = search needs
-
-add-counter : tie.Need-add-counter Inv-loop μ-loop
-add-counter c = search needs
+returns-2 c =
+    let t = c .before in
+    let l = t .before .before .before .before .before .before .before .before in
+    record {
+      final = sym (t .is-final .ensures) ∙ c .if2 .taken;
+      phase = l .loop .steps .phase;
+      piece = _;
+      going = l .loop .inv .1;
+      said = t .before .step .ensures .said;
+    }
 
 loop-less : tie.Need-loop-less Inv-loop μ-loop
-loop-less c = search needs
+loop-less c = search (step-less, needs)
 
 loop-again : tie.Need-loop-again Inv-loop μ-loop
-loop-again c = search needs
+loop-again c = (search needs, search (step-going, needs))
 
-returns-3 : tie.Need-returns-3 Inv-loop μ-loop
-returns-3 c = search needs
-
-pub main-spec : {M : Type 1} → statement M
-main-spec =
+pub take-input-spec : {M : Type 1} → statement M
+take-input-spec =
     tie.close
     (tie.spec
     Inv-loop
@@ -79,16 +75,11 @@ main-spec =
     slice-aggregate-fill
     wanted-requires
     fill-requires
-    slice-aggregate-write-all
-    write-all-requires
     returns
     array-share-prefix-buffer
     slice-aggregate-step
     step-requires
-    is-more-requires
-    verdict-requires
+    is-final-requires
     returns-2
-    add-counter
     loop-less
-    loop-again
-    returns-3)
+    loop-again)

@@ -1,0 +1,24 @@
+-- What the program finds on standard input (rule S7): a final answer that a step gives, or that the input cannot be read.
+use mathlib.Core.Path.{_≡_}
+use mathlib.Core.Bool.{true}
+use mathlib.Core.List.{List}
+use Prim.Native.Nat.{ℕ}
+use Rattle.answers.specs.Told.{told, intake}
+use Rattle.answers.specs.declared.Verdict.{Verdict}
+use Rattle.stepping.specs.Steps.{saidOf}
+use Rattle.stepping.specs.Turns.{isFinal, Going}
+use Rattle.stepping.specs.declared.steps.Phase.{Phase}
+use Rattle.intake.specs.declared.Found.{Found}
+use Rattle.intake.specs.declared.Found.the-variants.{Answer, Unread}
+
+-- S5, S7: never "more", and what the step says of a piece in a state that "more" led to from a new one
+pub record Last (answer : Verdict) : Type 0 where
+  pub final : isFinal answer ≡ true
+  pub phase : Phase
+  pub piece : List ℕ
+  pub going : Going phase
+  pub said : told intake answer ≡ saidOf phase piece
+
+abbrev pub Settled : Found → Type 0
+Settled (Answer v) = Last v
+Settled Unread = Unit {0}
