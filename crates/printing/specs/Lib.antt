@@ -1,0 +1,2 @@
+-- The line that tells an answer.
+pub mod Line
