@@ -2,22 +2,24 @@
 use mathlib.Core.Path.{_≡_}
 use mathlib.Core.Bool.{true}
 use mathlib.Core.List.{List}
-use Prim.Native.Nat.{ℕ}
+use Prim.Native.Nat.{ℕ, _≤_}
+use lib.ListN.{length}
 use Rattle.answers.specs.Told.{told, intake}
 use Rattle.answers.specs.declared.Verdict.{Verdict}
-use Rattle.stepping.specs.Steps.{saidOf}
+use Rattle.stepping.specs.Steps.{saidOf, wanted}
 use Rattle.stepping.specs.Turns.{isFinal, Going}
 use Rattle.stepping.specs.declared.steps.Phase.{Phase}
 use Rattle.intake.specs.declared.Found.{Found}
 use Rattle.intake.specs.declared.Found.the-variants.{Answer, Unread}
 
--- S5, S7: never "more", and what the step says of a piece in a state that "more" led to from a new one
+-- S5, S7: never "more", and what the step says of a piece, no longer than due, in a state that "more" led to from a new one
 pub record Last (answer : Verdict) : Type 0 where
   pub final : isFinal answer ≡ true
   pub phase : Phase
   pub piece : List ℕ
   pub going : Going phase
   pub said : told intake answer ≡ saidOf phase piece
+  pub within : length piece ≤ wanted phase
 
 abbrev pub Settled : Found → Type 0
 Settled (Answer v) = Last v

@@ -5,6 +5,7 @@ use mathlib.Core.Path.{_≡_, refl, sym, ap, _∙_}
 use mathlib.Core.Bool.{Bool, true, false, true≢false}
 use mathlib.Core.List.{List}
 use lib.Dec.{lit<}
+use lib.ListN.{length}
 use Rattle.answers.specs.Told.{told, intake, more}
 use Rattle.answers.specs.declared.Verdict.{Verdict}
 use Rattle.answers.specs.declared.Verdict.the-variants as verdict
@@ -19,7 +20,7 @@ use Rattle.headers.specs.Judged.{judged}
 use Rattle.headers.specs.declared.Judged.{Judged}
 use Rattle.headers.specs.declared.Judged.the-variants.{Good, Refused}
 use Rattle.reading.proofs.NeverMore.{refused-not-more, accepted-not-more, numbered-not-more}
-use Rattle.stepping.specs.Steps.{saidOf, saidOfHeaders, saidOfLaid, dueAfter, advanced, after, Step}
+use Rattle.stepping.specs.Steps.{saidOf, saidOfHeaders, saidOfLaid, wanted, dueAfter, advanced, after, Step}
 use Rattle.stepping.specs.Turns.{isFinal, Going, new, on, turnsOf, mostColumns, turnsLeft}
 use Rattle.stepping.specs.declared.steps.Due.{Due}
 use Rattle.stepping.specs.declared.steps.Phase.{Phase}
@@ -71,9 +72,9 @@ over-not-due (Refused r) v e p = numbered-not-more r e
 
 never-over : (phase : Phase) (v : Verdict) → Going phase → phase ≡ Over v → ⊥
 never-over _ v new p = let z : _≡_ {A = ℕ} 0 1 = cc in omega arith
-never-over _ v (on Headers piece g e) p = over-not-due (judged piece) v e p
-never-over _ v (on (Columns d) piece g e) p = let z : _≡_ {A = ℕ} 0 1 = cc in omega arith
-never-over _ v (on (Over w) piece g e) p = never-over (Over w) w g refl
+never-over _ v (on Headers piece g w e) p = over-not-due (judged piece) v e p
+never-over _ v (on (Columns d) piece g w e) p = let z : _≡_ {A = ℕ} 0 1 = cc in omega arith
+never-over _ v (on (Over u) piece g w e) p = never-over (Over u) u g refl
 
 pub turns-fall : (phase : Phase) (piece : List ℕ) → Going phase → saidOf phase piece ≡ more → turnsLeft (advanced phase piece) < turnsLeft phase
 turns-fall Headers piece g e = headers-fall (judged piece) e
@@ -92,8 +93,8 @@ module _ {phase : Phase} {piece : List ℕ} {v : Verdict} {later : Phase} {test 
   to-next : later ≡ advanced phase piece
   to-next = s .state ∙ ap (after phase piece) is-more
 
-  pub step-going : Going later
-  step-going = rw to-next (on phase piece g said-more)
+  pub step-going : length piece ≤ wanted phase → Going later
+  step-going w = rw to-next (on phase piece g w said-more)
 
   pub step-less : turnsLeft later < turnsLeft phase
   step-less = rw to-next (turns-fall phase piece g said-more)

@@ -1,15 +1,16 @@
 -- The turns of a caller who feeds steps until the answer is final (rules S1, S3, S5): the states met on the way, and the turns left.
-use Prim.Native.Nat.{ℕ, suc, _+_, _-_}
+use Prim.Native.Nat.{ℕ, _+_, _-_, _≤_}
 use mathlib.Core.Path.{_≡_}
 use mathlib.Core.Bool.{Bool, true, false}
 use mathlib.Core.List.{List}
+use lib.ListN.{length}
 use Rattle.answers.specs.Told.{more}
 use Rattle.answers.specs.declared.Verdict.{Verdict}
 use Rattle.answers.specs.declared.Verdict.the-variants.{More, Accepted, Refused}
 use Rattle.layout.specs.Grid.{laid, columnsOf}
 use Rattle.layout.specs.declared.Laid.{Laid}
 use Rattle.layout.specs.declared.Laid.the-variants.{Out, NoLevel, NoZone}
-use Rattle.stepping.specs.Steps.{saidOf, advanced}
+use Rattle.stepping.specs.Steps.{saidOf, wanted, advanced}
 use Rattle.stepping.specs.declared.steps.Phase.{Phase}
 use Rattle.stepping.specs.declared.steps.Phase.the-variants.{Headers, Columns, Over}
 
@@ -19,10 +20,10 @@ isFinal More = false
 isFinal (Accepted level columns posts) = true
 isFinal (Refused r) = true
 
--- S1, S3: the states that "more" leads to, from a new one on
+-- S1 to S3: the states that "more" leads to, from a new one on, where no piece has bytes that would be passed over
 pub data Going : Phase → Type 0 where
   new : Going Headers
-  on : (phase : Phase) (piece : List ℕ) → Going phase → saidOf phase piece ≡ more → Going (advanced phase piece)
+  on : (phase : Phase) (piece : List ℕ) → Going phase → length piece ≤ wanted phase → saidOf phase piece ≡ more → Going (advanced phase piece)
 
 -- the columns that are left, and the end
 abbrev pub turnsOf : Laid → ℕ → ℕ

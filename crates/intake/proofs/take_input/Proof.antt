@@ -1,14 +1,19 @@
 -- `take_input`: steps go on from a state that "more" led to, with fewer turns left each time.
-use Prim.Native.Nat.{_≤_}
+use Prim.Native.Nat.{ℕ, _≤_}
 use Rattle.stepping.specs.Turns.{Going, new, turnsLeft}
 use Rattle.stepping.proofs.TurnsLeft.{step-going, step-less}
 use borrow.Author.Needs.{needs}
-use lib.ListN.{length}
+use lib.ListN.{length, take, length-take}
+use mathlib.Core.List.{List}
 use lib.Seq.{length-take-le}
 use mathlib.Core.Path.{_≡_, refl, sym, _∙_}
 use native.Mathlib.Omega.{arith}
 use Rattle.intake.proofs.take_input.Statement.{statement}
 use Rattle.intake.proofs.take_input.Tie as tie
+
+-- a piece is no longer than what was wanted
+piece-within : (n asked due : ℕ) (buffer : List ℕ) → n ≤ asked → asked ≡ due → length (take n buffer) ≤ due
+piece-within n asked due buffer h e = omega (arith, length-take n buffer)
 
 abbrev Inv-loop : tie.InvT-loop
 Inv-loop buffer₀ steps₀ buffer steps = (length buffer ≡ 7214) × Going (steps .phase)
@@ -56,13 +61,14 @@ returns-2 c =
       piece = _;
       going = l .loop .inv .1;
       said = t .before .step .ensures .said;
+      within = search (piece-within, needs);
     }
 
 loop-less : tie.Need-loop-less Inv-loop μ-loop
 loop-less c = search (step-less, needs)
 
 loop-again : tie.Need-loop-again Inv-loop μ-loop
-loop-again c = (search needs, search (step-going, needs))
+loop-again c = (search needs, search (step-going, piece-within, needs))
 
 pub take-input-spec : {M : Type 1} → statement M
 take-input-spec =
