@@ -1,16 +1,16 @@
 -- Pieces of a line put one behind the other: the whole, and what stands in front of the bytes that were there.
 use Prim.Native.Nat.{ℕ, _+_, _<_, _≤_}
 use native.Mathlib.Omega.{arith}
-use mathlib.Core.Path.{_≡_, refl, sym, ap, _∙_}
+use mathlib.Core.Path.{_≡_, refl, ap, _∙_}
 use mathlib.Core.List.{List, [], _∷_, _++_, append-assoc}
-use lib.ListN.{length, take, drop, set, length-append}
+use lib.ListN.{length, take, drop, set, replicate, length-append}
 use lib.Seq.{take-at}
 use Rattle.octets.specs.Pastes.{pasted}
 use Rattle.octets.specs.Digits.{digitsOf}
 use Rattle.octets.specs.Texts.{ascii}
 use Rattle.octets.proofs.DigitLaws.{length-digits}
 use Rattle.octets.proofs.PasteLaws.{paste-paste, paste-front, paste-snoc, length-paste}
-use Rattle.printing.specs.Line.{widthOf, item, blank, lineFeed, acceptedLine, refusedLine, lineOf}
+use Rattle.printing.specs.Line.{widthOf, item, blank, lineFeed, acceptedLine, refusedLine, inArray}
 
 pub length-item : (v behind : ℕ) → length (item v behind) ≡ widthOf v + 1
 unfolding item
@@ -59,6 +59,6 @@ pub accepted-long : (level columns posts a b r : ℕ) → a ≡ 9 + length (item
 unfolding acceptedLine
 accepted-long level columns posts a b r e f g = simp length-append (omega arith)
 
--- what was put in front is there
-pub front : (l vs bytes : List ℕ) (n : ℕ) → bytes ≡ pasted l 0 vs → n ≡ length vs → take n bytes ≡ vs
-front l vs bytes n e f = rw (e, f, paste-front l vs) (take-at vs (drop (length vs) l) (length vs) refl)
+-- so many bytes of the array as the line is long are the line: they are what is written
+pub line-in-front : (line : List ℕ) → take (length line) (inArray line) ≡ line
+line-in-front line = rw (paste-front (replicate 72 0) line) (take-at line (drop (length line) (replicate 72 0)) (length line) refl)

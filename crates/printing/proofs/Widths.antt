@@ -1,13 +1,11 @@
 -- Decimal numbers without zeros in front: how many digits there are, that they read as the number, and that the first is no zero.
-use Prim.Native.Nat.{ℕ, zero, suc, _+_, _-_, _*_, _/_, _%_, _^_, _<_, _≤_}
-use native.Mathlib.Nat.{pow-zero, pow-suc}
+use Prim.Native.Nat.{ℕ, zero, suc, _+_, _*_, _/_, _%_, _^_, _<_, _≤_}
+use native.Mathlib.Nat.{pow-suc}
 use native.Mathlib.Omega.{arith}
 use mathlib.Core.Path.{_≡_, refl, sym, ap, _∙_}
-use mathlib.Core.List.{List, [], _∷_, _++_, map-append}
-use lib.Dec.{ltb}
-use lib.ListN.{length, getD, List·getD-append}
+use mathlib.Core.List.{List, [], _∷_, map-append}
+use lib.ListN.{getD, List·getD-append}
 use borrow.Author.Tests.{lt-ltb, le-ltb}
-use Rattle.octets.specs.Choice.{pick}
 use Rattle.octets.specs.Places.{places}
 use Rattle.octets.specs.Digits.{decimalAt, digitsOf}
 use Rattle.octets.proofs.ChoiceLaws.{by-order}

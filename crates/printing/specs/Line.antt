@@ -2,8 +2,10 @@
 use Prim.Native.Nat.{ℕ, zero, suc, _/_}
 use mathlib.Core.List.{List, [], _∷_, _++_}
 use lib.Dec.{ltb}
+use lib.ListN.{replicate}
 use Rattle.octets.specs.Choice.{pick}
 use Rattle.octets.specs.Digits.{digitsOf}
+use Rattle.octets.specs.Pastes.{pasted}
 use Rattle.octets.specs.Texts.{ascii}
 use Rattle.answers.specs.Told.{Told, refused, more, accepted, height, void, heightAt, voidAt, done}
 
@@ -48,3 +50,7 @@ lineOf void = []
 lineOf (heightAt column number z) = []
 lineOf (voidAt column number) = []
 lineOf done = []
+
+-- a line at the front of an array, with room for any; the rest are zeros
+abbrev pub inArray : List ℕ → List ℕ
+inArray line = pasted (replicate 72 0) 0 line

@@ -1,10 +1,10 @@
 // The line of a verdict, made in an array, so that it can be written at once.
 ghost use mathlib.Core.Path.{_≡_};
 ghost use Prim.Native.Nat.{_+_, _≤_};
-ghost use lib.ListN.{length, take};
+ghost use lib.ListN.{length};
 ghost use Rattle.answers.specs.Told.{told, intake};
 ghost use Rattle.octets.specs.Pastes.{pasted};
-ghost use Rattle.printing.specs.Line.{widthOf, item, acceptedLine, refusedLine, lineOf};
+ghost use Rattle.printing.specs.Line.{widthOf, item, acceptedLine, refusedLine, lineOf, inArray};
 use answers::Verdict;
 use octets::digits::put_digits;
 use octets::pastes::paste;
@@ -62,7 +62,7 @@ fn put_refused(s: &mut [u8], number: usize, place: usize) -> usize
 
 // The line of a verdict: the first `length` of the bytes.
 pub fn line_of(verdict: Verdict) -> Line
-    ensures { λ r. ⌜ (take (r .length) (r .bytes) ≡ lineOf (told intake verdict)) × (r .length ≤ length (r .bytes)) ⌝ }
+    ensures { λ r. ⌜ (r .bytes ≡ inArray (lineOf (told intake verdict))) × ((r .length ≡ length (lineOf (told intake verdict))) × (r .length ≤ length (r .bytes))) ⌝ }
 {
     let mut bytes = [0u8; ROOM];
     match verdict {

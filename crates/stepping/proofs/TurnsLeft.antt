@@ -1,5 +1,5 @@
 -- Every step answered "more" leaves fewer turns, and a new state has at most one for each column, one before and one after them.
-use Prim.Native.Nat.{ℕ, _+_, _-_, _≤_, _<_}
+use Prim.Native.Nat.{ℕ, _+_, _≤_, _<_}
 use native.Mathlib.Omega.{arith}
 use mathlib.Core.Path.{_≡_, refl, sym, ap, _∙_}
 use mathlib.Core.Bool.{Bool, true, false, true≢false}
@@ -12,7 +12,6 @@ use Rattle.answers.specs.declared.Verdict.the-variants as verdict
 use Rattle.layout.specs.Levels.{latitudeInterval}
 use Rattle.layout.specs.Zones.{factorAmong, factorOf}
 use Rattle.layout.specs.Grid.{laid, longitudeInterval, columnsOf}
-use Rattle.layout.specs.declared.Grid.{Grid}
 use Rattle.layout.specs.declared.Laid.{Laid}
 use Rattle.layout.specs.declared.Laid.the-variants.{Out, NoLevel, NoZone}
 use Rattle.layout.proofs.Ranges.{ranged, laid-out}
@@ -22,7 +21,6 @@ use Rattle.headers.specs.declared.Judged.the-variants.{Good, Refused}
 use Rattle.reading.proofs.NeverMore.{refused-not-more, accepted-not-more, numbered-not-more}
 use Rattle.stepping.specs.Steps.{saidOf, saidOfHeaders, saidOfLaid, wanted, dueAfter, advanced, after, Step}
 use Rattle.stepping.specs.Turns.{isFinal, Going, new, on, turnsOf, mostColumns, turnsLeft}
-use Rattle.stepping.specs.declared.steps.Due.{Due}
 use Rattle.stepping.specs.declared.steps.Phase.{Phase}
 use Rattle.stepping.specs.declared.steps.Phase.the-variants.{Headers, Columns, Over}
 use Rattle.stepping.proofs.Kept.{below-columns}

@@ -53,7 +53,9 @@ fn write(out: &mut [u8], d: Description, heights: &[i16]) {
         Outcome::Done => {
             io::write_all(OUTPUT, b"done\n");
         }
-        Outcome::Refused(refusal) => printing::verdict(OUTPUT, Verdict::Refused(refusal)),
+        Outcome::Refused(refusal) => {
+            printing::verdict(OUTPUT, Verdict::Refused(refusal));
+        }
     }
 }
 

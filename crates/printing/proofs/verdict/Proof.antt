@@ -9,10 +9,10 @@ line-of-requires : tie.Need-line-of-requires
 line-of-requires c κs = search needs
 
 array-share-prefix-bytes : tie.Need-array-share-prefix-bytes
-array-share-prefix-bytes c = c .before .line-of .ensures .1
+array-share-prefix-bytes c = c .before .line-of .ensures .1 .1
 
 slice-aggregate-write-all : tie.Need-slice-aggregate-write-all
-slice-aggregate-write-all c = sym (length-take-le _ _ (c .before .before .line-of .ensures .1))
+slice-aggregate-write-all c = sym (length-take-le _ _ (c .before .before .line-of .ensures .1 .1))
 
 write-all-requires : tie.Need-write-all-requires
 write-all-requires c κs = search needs

@@ -1,9 +1,10 @@
--- `line_of`: what was put in front of the array is the line.
-use Rattle.printing.proofs.LinePastes.{front}
-use Rattle.printing.specs.Line.{lineOf}
+-- `line_of`: the line is put at the front of the array of zeros.
+use Rattle.printing.specs.Line.{lineOf, inArray}
+use Rattle.octets.specs.Pastes.{pasted}
 use Rattle.answers.specs.Told.{told, intake}
 use Rattle.answers.specs.declared.Verdict.{Verdict}
-use mathlib.Core.Path.{_≡_, sym, ap, _∙_}
+use mathlib.Core.Path.{sym, ap, _∙_}
+use lib.ListN.{length}
 use native.Mathlib.Omega.{arith}
 use borrow.Author.Needs.{needs}
 use Rattle.printing.proofs.lines.line_of.Statement.{statement}
@@ -34,24 +35,23 @@ put-refused-requires : tie.Need-put-refused-requires
 put-refused-requires c κs = search needs
 
 returns : tie.Need-returns
-returns c = search needs
+unfolding pasted
+returns c =
+    let line = sym (ap (λ (v : Verdict). lineOf (told intake v)) (c .enum-told .given .1)) in
+    (ap inArray line, (ap length line, omega arith))
 
 returns-2 : tie.Need-returns-2
 returns-2 c =
-    let p = c .before .put-accepted in (
-      front _ _ _ _ (p .ensures .0) (p .ensures .1 .0) ∙ sym (ap (λ (v : Verdict). lineOf (told intake v)) (c .before .before .before .before .verdict .given .1)),
-      omega (arith, p .kept .0),
-    )
+    let p = c .before .put-accepted in
+    let line = sym (ap (λ (v : Verdict). lineOf (told intake v)) (c .before .before .before .before .verdict .given .1)) in
+    (p .ensures .0 ∙ ap inArray line, (p .ensures .1 .0 ∙ ap length line, omega (arith, p .kept .0)))
 
 returns-3 : tie.Need-returns-3
 returns-3 c =
     let p = c .before .put-refused in
-    let n = c .before .before .before in (
-      front _ _ _ _ (p .ensures .0) (p .ensures .1 .0)
-          ∙ ap lineOf (n .number .ensures)
-          ∙ sym (ap (λ (v : Verdict). lineOf (told intake v)) (n .before .before .verdict2 .given .1)),
-      omega (arith, p .kept .0),
-    )
+    let n = c .before .before .before in
+    let line = ap lineOf (n .number .ensures) ∙ sym (ap (λ (v : Verdict). lineOf (told intake v)) (n .before .before .verdict2 .given .1)) in
+    (p .ensures .0 ∙ ap inArray line, (p .ensures .1 .0 ∙ ap length line, omega (arith, p .kept .0)))
 
 pub line-of-spec : {M : Type 1} → statement M
 line-of-spec =

@@ -1,6 +1,5 @@
 -- `put_item`: the digits, and the byte behind them.
 use Rattle.printing.proofs.LinePastes.{item-put, length-item}
-use mathlib.Core.Path.{_≡_, sym, ap, _∙_}
 use native.Mathlib.Omega.{arith}
 use borrow.Author.Needs.{needs}
 use Rattle.printing.proofs.lines.put_item.Statement.{statement}
