@@ -20,19 +20,14 @@ pub record Touched (l after : List ℕ) (c p : ℕ) (z : ℤ) : Type 0 where
   pub long : length after ≡ length l
   pub others : (i : ℕ) → NoneOf (postAt l c p z) 2 i → NoneOf (checksumAt l c p z) 4 i → getD after i 0 ≡ getD l i 0
 
-touched : (l : List ℕ) (c p : ℕ) (z : ℤ) → Touched l (edited l c p z) c p z
-touched l c p z = record { long = same-length l c p z; others = six-bytes l c p z }
+touched : (l after : List ℕ) (c p : ℕ) (z : ℤ) → after ≡ edited l c p z → Touched l after c p z
+touched l after c p z left =
+    subst (λ (m : List ℕ). Touched l m c p z) (sym left) (record { long = same-length l c p z; others = six-bytes l c p z })
 
 pub edit-touches : (κs : L.Lfts 1) (a : K.Dens κs edit-kinds.ps) (r : _) (s : _) → edit.Post κs a r s
     → Touched (now (a .0)) (now (s .0)) (a .1 .0) (a .1 .1 .0) (a .1 .1 .1 .0)
-edit-touches κs a r s kept =
-    let l = now (a .0) in
-    let z = a .1 .1 .1 .0 in
-    subst (λ (m : List ℕ). Touched l m (a .1 .0) (a .1 .1 .0) z) (sym (kept .1)) (touched l (a .1 .0) (a .1 .1 .0) z)
+edit-touches κs a r s kept = touched (now (a .0)) (now (s .0)) (a .1 .0) (a .1 .1 .0) (a .1 .1 .1 .0) (kept .1)
 
 pub host-edit-touches : (κs : L.Lfts 1) (a : K.Dens κs host-edit-kinds.ps) (r : _) (s : _) → host-edit.Post κs a r s
     → Touched (now (a .0)) (now (s .0)) (a .1 .0) (a .1 .1 .0) (a .1 .1 .1 .0)
-host-edit-touches κs a r s kept =
-    let l = now (a .0) in
-    let z = a .1 .1 .1 .0 in
-    subst (λ (m : List ℕ). Touched l m (a .1 .0) (a .1 .1 .0) z) (sym (kept .1)) (touched l (a .1 .0) (a .1 .1 .0) z)
+host-edit-touches κs a r s kept = touched (now (a .0)) (now (s .0)) (a .1 .0) (a .1 .1 .0) (a .1 .1 .1 .0) (kept .1)
