@@ -1,14 +1,18 @@
--- What the program finds on standard input (rule S7): a final answer that a step gives, or that the input cannot be read.
+-- What the program finds on standard input (rule S7): a final answer that a step gives, or that a call of read failed.
 use mathlib.Core.Path.{_≡_}
 use mathlib.Core.Bool.{true}
 use mathlib.Core.List.{List}
 use Prim.Native.Nat.{ℕ, _≤_}
 use lib.ListN.{length}
+use lib.IntN.{ℤ, pos}
+use lib.Signed.{ltZ}
 use Rattle.answers.specs.Told.{told, intake}
 use Rattle.answers.specs.declared.Verdict.{Verdict}
 use Rattle.stepping.specs.Steps.{saidOf, wanted}
 use Rattle.stepping.specs.Turns.{isFinal, Going}
 use Rattle.stepping.specs.declared.steps.Phase.{Phase}
+use Rattle.intake.specs.declared.Filled.{Filled}
+use Rattle.intake.specs.declared.Filled.the-variants.{Bytes, Failed}
 use Rattle.intake.specs.declared.Found.{Found}
 use Rattle.intake.specs.declared.Found.the-variants.{Answer, Unread}
 
@@ -21,6 +25,14 @@ pub record Last (answer : Verdict) : Type 0 where
   pub said : told intake answer ≡ saidOf phase piece
   pub within : length piece ≤ wanted phase
 
+-- a call of read that fails answers a negative number
+abbrev pub IsFailure : ℤ → Type 0
+IsFailure got = ltZ got (pos 0) ≡ true
+
+abbrev pub FilledUpTo : ℕ → Filled → Type 0
+FilledUpTo wanted (Bytes n) = n ≤ wanted
+FilledUpTo wanted (Failed got) = IsFailure got
+
 abbrev pub Settled : Found → Type 0
 Settled (Answer v) = Last v
-Settled Unread = Unit {0}
+Settled (Unread got) = IsFailure got

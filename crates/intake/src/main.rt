@@ -4,7 +4,7 @@ ghost use mathlib.Core.Path.{_≡_};
 ghost use Prim.Native.Nat.{_≤_};
 ghost use lib.ListN.{length};
 ghost use Rattle.stepping.specs.Turns.{isFinal};
-ghost use Rattle.intake.specs.Found.{Settled};
+ghost use Rattle.intake.specs.Found.{FilledUpTo, Settled};
 use answers::Verdict;
 use stepping::steps::Steps;
 
@@ -17,45 +17,36 @@ const ERRORS: i32 = 2;
 // The longest column of any level.
 const BUFFER: usize = 7214;
 
-// What the input was found to be.
-enum Found {
-    Answer(Verdict),
-    Unread,
+// What a piece was filled with: so many bytes, or what the call of read answered that failed.
+enum Filled {
+    Bytes(usize),
+    Failed(isize),
 }
 
-// How much of a piece was read, and whether reading failed.
-struct Filled {
-    bytes: usize,
-    failed: bool,
+// What the input was found to be; unread, with what the call of read answered that failed.
+enum Found {
+    Answer(Verdict),
+    Unread(isize),
 }
 
 // Reads until the piece is whole or the input ends: a short read is no end.
 fn fill(buffer: &mut [u8], wanted: usize) -> Filled
     requires { ⌜ wanted ≤ length (now buffer) ⌝ }
-    ensures { λ r. ⌜ r .bytes ≤ wanted ⌝ }
+    ensures { λ r. ⌜ FilledUpTo wanted r ⌝ }
 {
     let mut done = 0;
     while done < wanted {
         let got = libc::read(INPUT, &mut buffer[done..wanted]);
         if got < 0 {
-            return Filled {
-                bytes: done,
-                failed: true,
-            };
+            return Filled::Failed(got);
         }
         let more = io::count(got, &buffer[done..wanted]);
         if more == 0 {
-            return Filled {
-                bytes: done,
-                failed: false,
-            };
+            return Filled::Bytes(done);
         }
         done += more;
     }
-    Filled {
-        bytes: done,
-        failed: false,
-    }
+    Filled::Bytes(done)
 }
 
 // Whether no other piece is due.
@@ -81,17 +72,18 @@ fn take_input() -> Found
     let mut steps = Steps::new();
     loop {
         let filled = fill(&mut buffer, steps.wanted());
-        if filled.failed {
-            return Found::Unread;
+        match filled {
+            Filled::Failed(got) => return Found::Unread(got),
+            Filled::Bytes(n) => {
+                let stepped = steps.step(&buffer[..n]);
+                let answer = stepped.answer;
+                if is_final(answer) {
+                    return Found::Answer(answer);
+                }
+                let later = stepped.steps;
+                steps = later;
+            }
         }
-        let n = filled.bytes;
-        let stepped = steps.step(&buffer[..n]);
-        let answer = stepped.answer;
-        if is_final(answer) {
-            return Found::Answer(answer);
-        }
-        let later = stepped.steps;
-        steps = later;
     }
 }
 
@@ -103,7 +95,7 @@ fn main() {
                 io::write_all(ERRORS, b"intake: standard output cannot be written\n");
             }
         }
-        Found::Unread => {
+        Found::Unread(_) => {
             io::write_all(ERRORS, b"intake: standard input cannot be read\n");
         }
     }

@@ -2,14 +2,27 @@
 use Prim.Native.Nat.{ℕ, _≤_}
 use Rattle.stepping.specs.Turns.{Going, new, turnsLeft}
 use Rattle.stepping.proofs.TurnsLeft.{step-going, step-less}
+use Rattle.intake.specs.Found.{IsFailure, FilledUpTo}
+use Rattle.intake.specs.declared.Filled.{Filled}
+use Rattle.intake.specs.declared.Filled.the-variants.{Bytes, Failed}
 use borrow.Author.Needs.{needs}
 use lib.ListN.{length, take, length-take}
+use mir.Facts.{toZ-ofZ}
+use mir.Syntax.{w64}
 use mathlib.Core.List.{List}
 use lib.Seq.{length-take-le}
-use mathlib.Core.Path.{_≡_, refl, sym, _∙_}
+use lib.IntN.{ℤ}
+use mathlib.Core.Path.{_≡_, refl, sym, subst, _∙_}
 use native.Mathlib.Omega.{arith}
 use Rattle.intake.proofs.take_input.Statement.{statement}
 use Rattle.intake.proofs.take_input.Tie as tie
+
+-- what a piece was filled with, by cases
+bytes-filled : {asked n : ℕ} {r : Filled} → FilledUpTo asked r → r ≡ Bytes n → n ≤ asked
+bytes-filled {asked} h e = subst (FilledUpTo asked) e h
+
+failed-filled : (asked : ℕ) {got : ℤ} {r : Filled} → FilledUpTo asked r → r ≡ Failed got → IsFailure got
+failed-filled asked h e = subst (FilledUpTo asked) e h
 
 -- a piece is no longer than what was wanted
 piece-within : (n asked due : ℕ) (buffer : List ℕ) → n ≤ asked → asked ≡ due → length (take n buffer) ≤ due
@@ -36,14 +49,27 @@ wanted-requires c κs = search needs
 fill-requires : tie.Need-fill-requires Inv-loop μ-loop
 fill-requires c κs = search needs
 
+enum-known-filled : tie.Need-enum-known-filled Inv-loop μ-loop
+enum-known-filled c = search needs
+
 returns : tie.Need-returns Inv-loop μ-loop
-returns c = search needs
+returns c =
+    let got = c .before .filled .given in
+    rw (toZ-ofZ {w = w64} {z = got .0 .0} (record { sfits = c .known-told .given .0 .1 }))
+    (failed-filled _ (c .before .before .before .before .fill .ensures) (got .1))
+
+enum-known-filled-2 : tie.Need-enum-known-filled-2 Inv-loop μ-loop
+enum-known-filled-2 c = search needs
 
 array-share-prefix-buffer : tie.Need-array-share-prefix-buffer Inv-loop μ-loop
-array-share-prefix-buffer c = search needs
+array-share-prefix-buffer c =
+    let n = bytes-filled (c .before .before .before .before .fill .ensures) (c .before .filled2 .given .1) in
+    omega arith
 
 slice-aggregate-step : tie.Need-slice-aggregate-step Inv-loop μ-loop
-slice-aggregate-step c = sym (length-take-le _ _ (omega arith))
+slice-aggregate-step c =
+    let n = bytes-filled (c .before .before .before .before .before .fill .ensures) (c .before .before .filled2 .given .1) in
+    sym (length-take-le _ _ (omega arith))
 
 step-requires : tie.Need-step-requires Inv-loop μ-loop
 step-requires c κs = search needs
@@ -54,21 +80,21 @@ is-final-requires c κs = search needs
 returns-2 : tie.Need-returns-2 Inv-loop μ-loop
 returns-2 c =
     let t = c .before in
-    let l = t .before .before .before .before .before .before .before .before in
+    let l = t .before .before .before .before .before .before .before .before .before .before in
     record {
-      final = sym (t .is-final .ensures) ∙ c .if2 .taken;
+      final = sym (t .is-final .ensures) ∙ c .if1 .taken;
       phase = l .loop .steps .phase;
       piece = _;
       going = l .loop .inv .1;
       said = t .before .step .ensures .said;
-      within = search (piece-within, needs);
+      within = search (piece-within, bytes-filled, needs);
     }
 
 loop-less : tie.Need-loop-less Inv-loop μ-loop
 loop-less c = search (step-less, needs)
 
 loop-again : tie.Need-loop-again Inv-loop μ-loop
-loop-again c = (search needs, search (step-going, piece-within, needs))
+loop-again c = (search needs, search (step-going, piece-within, bytes-filled, needs))
 
 pub take-input-spec : {M : Type 1} → statement M
 take-input-spec =
@@ -81,7 +107,9 @@ take-input-spec =
     slice-aggregate-fill
     wanted-requires
     fill-requires
+    enum-known-filled
     returns
+    enum-known-filled-2
     array-share-prefix-buffer
     slice-aggregate-step
     step-requires
