@@ -5,6 +5,7 @@ pub mod EditChain
 pub mod EditedCells
 pub mod PlacesFit
 pub mod HostFits
+pub mod NothingAsked
 pub mod Settled
 pub mod HostSettled
 pub mod HostAnswers
