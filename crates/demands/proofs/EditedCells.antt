@@ -29,29 +29,28 @@ done-exactly t Done e = sym (e .0 refl)
 done-exactly true (Refused r) e = ap isDone (e .1 refl)
 done-exactly false (Refused r) e = refl
 
-module _ (κs : L.Lfts 1) where
-  -- what a call was given
-  abbrev pub given : K.Dens κs kinds.ps → Call
-  given a = record { column = a .1 .0; post = a .1 .1 .0; height = a .1 .1 .1 .0 }
+-- what a call was given
+abbrev pub given : (κs : L.Lfts 1) → K.Dens κs kinds.ps → Call
+given κs a = record { column = a .1 .0; post = a .1 .1 .0; height = a .1 .1 .1 .0 }
 
-  -- calls of `edit`, each of which keeps its promise, take bytes to bytes with these answers
-  pub data Edits : List ℕ → List Call → List Outcome → List ℕ → Type 1 where
-    none : {l : List ℕ} → Edits l [] [] l
-    more : {es : List Call} {rs : List Outcome} {l : List ℕ} (a : K.Dens κs kinds.ps) (r : Outcome) (s : _)
-        → edit.Pre κs a → edit.Post κs a r s → Edits (s .0 .now) es rs l → Edits (a .0 .now) (given a ∷ es) (r ∷ rs) l
+-- calls of `edit`, each of which keeps its promise, take bytes to bytes with these answers
+pub data Edits : List ℕ → List Call → List Outcome → List ℕ → Type 1 where
+  none : {l : List ℕ} → Edits l [] [] l
+  more : {es : List Call} {rs : List Outcome} {l : List ℕ} (κs : L.Lfts 1) (a : K.Dens κs kinds.ps) (r : Outcome) (s : _)
+      → edit.Post κs a r s → Edits (s .0 .now) es rs l → Edits (a .0 .now) (given κs a ∷ es) (r ∷ rs) l
 
-module _ (κs : L.Lfts 1) where
-  -- one call answers what is judged
-  call-answered : (a : K.Dens κs kinds.ps) (r : Outcome) (s : _) → edit.Post κs a r s → Cell (a .0 .now) → isDone r ≡ takes (factsIn (a .0 .now)) (given κs a)
-  unfolding editTold
-  call-answered a r s promise cell =
-      let e = given κs a in
-      let same = told-injective act r (judgedEdit (a .0 .now) (e .column) (e .post) (e .height)) (promise .0) in
-      done-exactly (takes (factsIn (a .0 .now)) e) r (rw same (edit-answered (a .0 .now) cell e))
+-- one call answers what is judged
+call-answered : (κs : L.Lfts 1) (a : K.Dens κs kinds.ps) (r : Outcome) (s : _) → edit.Post κs a r s → Cell (a .0 .now)
+    → isDone r ≡ takes (factsIn (a .0 .now)) (given κs a)
+unfolding editTold
+call-answered κs a r s promise cell =
+    let e = given κs a in
+    let same = told-injective act r (judgedEdit (a .0 .now) (e .column) (e .post) (e .height)) (promise .0) in
+    done-exactly (takes (factsIn (a .0 .now)) e) r (rw same (edit-answered (a .0 .now) cell e))
 
-  chained : {l l' : List ℕ} {es : List Call} {rs : List Outcome} → Edits κs l es rs l' → Chain isDone l es rs l'
-  chained none = empty
-  chained (more a r s asked promise rest) = call (a .0 .now) (s .0 .now) (given κs a) r (promise .1) (call-answered a r s promise) (chained rest)
+chained : {l l' : List ℕ} {es : List Call} {rs : List Outcome} → Edits l es rs l' → Chain isDone l es rs l'
+chained none = empty
+chained (more κs a r s promise rest) = call (a .0 .now) (s .0 .now) (given κs a) r (promise .1) (call-answered κs a r s promise) (chained rest)
 
-  pub edited-cells : (l l' : List ℕ) (es : List Call) (rs : List Outcome) → Edits κs l es rs l' → Cell l → ((i : ℕ) → getD l i 0 < 256) → Left isDone l es rs l'
-  edited-cells l l' es rs calls = chain-left l l' es rs (chained calls)
+pub edited-cells : (l l' : List ℕ) (es : List Call) (rs : List Outcome) → Edits l es rs l' → Cell l → ((i : ℕ) → getD l i 0 < 256) → Left isDone l es rs l'
+edited-cells l l' es rs calls = chain-left l l' es rs (chained calls)

@@ -1,6 +1,6 @@
 -- The marked examples hold: one statement over their whole table.
 use mathlib.Core.Path.{_≡_, refl}
-use mathlib.Core.List.{map}
+use mathlib.Core.List.{[], _∷_, map}
 use Rattle.layout.specs.Levels.{latitudeInterval, postsOf}
 use Rattle.layout.specs.Zones.{nearEdge, factorAmong, factorOf}
 use Rattle.layout.specs.Grid.{longitudeInterval, columnsOf, cellBytes, gridOf}
@@ -14,8 +14,12 @@ use Rattle.posts.specs.Words.{heightOf, postOf, inRange, wordAllowed}
 use Rattle.storing.specs.Stored.{stored}
 use Rattle.locating.specs.Position.{southWest}
 use Rattle.editing.specs.Edit.{storedIn}
-use Rattle.demands.specs.Marked.{made, givens, answers}
+use Rattle.demands.specs.Marked.{Example, table, made, givens, answers}
 
 pub marked : map made givens ≡ answers
 unfolding made nearEdge factorAmong factorOf latitudeInterval postsOf longitudeInterval columnsOf cellBytes gridOf edgeOf southWest heightOf postOf inRange wordAllowed wordOf places sumOf preamble wordsOf sealed columnOf pasted stored storedIn
 marked = refl
+
+-- and none is missing: the marks of the table's rows
+pub all-marked : map (λ (e : Example). e .mark) table ≡ 1 ∷ 1 ∷ 2 ∷ 2 ∷ 3 ∷ 4 ∷ 5 ∷ 5 ∷ 6 ∷ 6 ∷ 7 ∷ 7 ∷ 8 ∷ 8 ∷ 9 ∷ 10 ∷ 11 ∷ 12 ∷ []
+all-marked = refl

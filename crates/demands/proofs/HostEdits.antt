@@ -21,27 +21,28 @@ use Rattle.demands.proofs.HostAnswers.{answer-is}
 abbrev pub isDone : ℕ → Bool
 isDone r = eqb r 0
 
-module _ (κs : L.Lfts 1) where
-  -- what a call was given
-  abbrev pub given : K.Dens κs edit-kinds.ps → Call
-  given a = record { column = a .1 .0; post = a .1 .1 .0; height = a .1 .1 .1 .0 }
+-- what a call was given
+abbrev pub given : (κs : L.Lfts 1) → K.Dens κs edit-kinds.ps → Call
+given κs a = record { column = a .1 .0; post = a .1 .1 .0; height = a .1 .1 .1 .0 }
 
-  pub data Edits : List ℕ → List Call → List ℕ → List ℕ → Type 1 where
-    none : {l : List ℕ} → Edits l [] [] l
-    more : {es : List Call} {rs : List ℕ} {l : List ℕ} (a : K.Dens κs edit-kinds.ps) (r : ℕ) (s : _)
-        → edit.Pre κs a → edit.Post κs a r s → Edits (s .0 .now) es rs l → Edits (a .0 .now) (given a ∷ es) (r ∷ rs) l
+-- calls of the exported edit, each of which keeps its promise, take bytes to bytes with these answers
+pub data Edits : List ℕ → List Call → List ℕ → List ℕ → Type 1 where
+  none : {l : List ℕ} → Edits l [] [] l
+  more : {es : List Call} {rs : List ℕ} {l : List ℕ} (κs : L.Lfts 1) (a : K.Dens κs edit-kinds.ps) (r : ℕ) (s : _)
+      → edit.Post κs a r s → Edits (s .0 .now) es rs l → Edits (a .0 .now) (given κs a ∷ es) (r ∷ rs) l
 
-module _ (κs : L.Lfts 1) where
-  call-answered : (a : K.Dens κs edit-kinds.ps) (r : ℕ) (s : _) → edit.Post κs a r s → Cell (a .0 .now) → isDone r ≡ takes (factsIn (a .0 .now)) (given κs a)
-  unfolding editTold
-  call-answered a r s promise cell =
-      let e = given κs a in
-      let x = judgedEdit (a .0 .now) (e .column) (e .post) (e .height) in
-      rw (promise .0) (answer-is x (takes (factsIn (a .0 .now)) e) (edit-answered (a .0 .now) cell e))
+-- one call answers what is judged
+call-answered : (κs : L.Lfts 1) (a : K.Dens κs edit-kinds.ps) (r : ℕ) (s : _) → edit.Post κs a r s → Cell (a .0 .now)
+    → isDone r ≡ takes (factsIn (a .0 .now)) (given κs a)
+unfolding editTold
+call-answered κs a r s promise cell =
+    let e = given κs a in
+    let x = judgedEdit (a .0 .now) (e .column) (e .post) (e .height) in
+    rw (promise .0) (answer-is x (takes (factsIn (a .0 .now)) e) (edit-answered (a .0 .now) cell e))
 
-  chained : {l l' : List ℕ} {es : List Call} {rs : List ℕ} → Edits κs l es rs l' → Chain isDone l es rs l'
-  chained none = empty
-  chained (more a r s asked promise rest) = call (a .0 .now) (s .0 .now) (given κs a) r (promise .1) (call-answered a r s promise) (chained rest)
+chained : {l l' : List ℕ} {es : List Call} {rs : List ℕ} → Edits l es rs l' → Chain isDone l es rs l'
+chained none = empty
+chained (more κs a r s promise rest) = call (a .0 .now) (s .0 .now) (given κs a) r (promise .1) (call-answered κs a r s promise) (chained rest)
 
-  pub edited-cells : (l l' : List ℕ) (es : List Call) (rs : List ℕ) → Edits κs l es rs l' → Cell l → ((i : ℕ) → getD l i 0 < 256) → Left isDone l es rs l'
-  edited-cells l l' es rs calls = chain-left l l' es rs (chained calls)
+pub edited-cells : (l l' : List ℕ) (es : List Call) (rs : List ℕ) → Edits l es rs l' → Cell l → ((i : ℕ) → getD l i 0 < 256) → Left isDone l es rs l'
+edited-cells l l' es rs calls = chain-left l l' es rs (chained calls)

@@ -1,8 +1,7 @@
--- D2 and L2 over the lookups' own promises, inner and exported: each post of an accepted cell is answered as one height in range or as
--- void, by its number and by a position; and the headers and the post's column alone decide.
+-- D2 and L2 over the lookups' own promises, inner and exported: each post of an accepted cell is answered as what its word says, one height in
+-- range or void, by its number and by a position; and the headers and the post's column alone decide.
 use Prim.Native.Nat.{ℕ, _/_, _%_, _<_, _≤_}
 use mathlib.Core.Path.{_≡_, sym, ap, subst, _∙_}
-use mathlib.Core.Bool.{Bool}
 use mathlib.Core.List.{List}
 use lib.IntN.{ℤ}
 use lib.ListN.{length, take}
@@ -41,29 +40,28 @@ use Rattle.dted.proofs.cells.dted_position.Reads as host-position
 use Rattle.dted.proofs.cells.dted_position.Kinds as host-position-kinds
 use Rattle.demands.proofs.HostTold.{post-told, position-told}
 
--- what is told is a height in range, or void where voids are allowed
-pub record Answered (voids : Bool) (t : Told) : Type 0 where
-  pub post : Post
-  pub reads : Reads voids post
-  pub said : t ≡ told telling.post (postReads post)
+-- what the word says that stands there
+abbrev pub postIn : List ℕ → ℕ → ℕ → Post
+postIn l c p = postOf (wordIn (columnAt l (factsIn l .grid) c) p)
+
+-- that is told, and it is a height in range, or void where voids are allowed
+pub record Answered (l : List ℕ) (c p : ℕ) (t : Told) : Type 0 where
+  pub reads : Reads (voidsAllowed (factsIn l)) (postIn l c p)
+  pub said : t ≡ told telling.post (postReads (postIn l c p))
 
 -- so for the post nearest a position that lies so far north and east of the cell's corner
 pub record AnsweredNear (l : List ℕ) (north east : ℕ) (t : Told) : Type 0 where
   pub column : ℕ
   pub number : ℕ
-  pub post : Post
-  pub reads : Reads (voidsAllowed (factsIn l)) post
-  pub said : t ≡ saidAt column number (postReads post)
+  pub on-grid : (column < factsIn l .grid .columns) × (number < factsIn l .grid .posts)
+  pub reads : Reads (voidsAllowed (factsIn l)) (postIn l column number)
+  pub said : t ≡ saidAt column number (postReads (postIn l column number))
   pub by-column : (j : ℕ) → AsNear east (factsIn l .grid .interval .longitude) column j
   pub by-number : (j : ℕ) → AsNear north (factsIn l .grid .interval .latitude) number j
 
 post-answered-so : (l : List ℕ) → Cell l → (c p : ℕ) → c < factsIn l .grid .columns → p < factsIn l .grid .posts
-    → Answered (voidsAllowed (factsIn l)) (lookedUp l c p)
-post-answered-so l cell c p hc hp = record {
-  post = postOf (wordIn (columnAt l (factsIn l .grid) c) p);
-  reads = post-reads l cell c p hc hp;
-  said = post-found l cell c p hc hp;
-}
+    → Answered l c p (lookedUp l c p)
+post-answered-so l cell c p hc hp = record { reads = post-reads l cell c p hc hp; said = post-found l cell c p hc hp }
 
 position-answered-so : (l : List ℕ) → Cell l → (latitude longitude : ℤ) (north east : ℕ)
     → northOf (factsIn l) latitude ≡ On north → eastOf (factsIn l) longitude ≡ On east → AnsweredNear l north east (located l latitude longitude)
@@ -81,7 +79,7 @@ position-answered-so l cell latitude longitude north east n e =
     record {
       column = c;
       number = p;
-      post = postOf (wordIn (columnAt l (f .grid) c) p);
+      on-grid = (near .on-columns, near .on-posts);
       reads = post-reads l cell c p (near .on-columns) (near .on-posts);
       said = near .answered ∙ ap (readAt c p) there;
       by-column = near .by-column;
@@ -101,9 +99,9 @@ alike-told l m c p k = same-post l m c p (k .long .0) (k .long .1) (k .headers) 
 -- lookup by column and number
 pub post-answered : (κs : L.Lfts 1) (a : K.Dens κs look-up-kinds.ps) (r : _) (s : _) → look-up.Post κs a r s → Cell (now (a .0))
     → a .1 .0 < factsIn (now (a .0)) .grid .columns → a .1 .1 .0 < factsIn (now (a .0)) .grid .posts
-    → Answered (voidsAllowed (factsIn (now (a .0)))) (told telling.post r)
+    → Answered (now (a .0)) (a .1 .0) (a .1 .1 .0) (told telling.post r)
 post-answered κs a r s kept cell hc hp =
-    subst (Answered (voidsAllowed (factsIn (now (a .0))))) (sym kept) (post-answered-so (now (a .0)) cell (a .1 .0) (a .1 .1 .0) hc hp)
+    subst (Answered (now (a .0)) (a .1 .0) (a .1 .1 .0)) (sym kept) (post-answered-so (now (a .0)) cell (a .1 .0) (a .1 .1 .0) hc hp)
 
 pub post-local : (κs κs' : L.Lfts 1) (a : K.Dens κs look-up-kinds.ps) (b : K.Dens κs' look-up-kinds.ps) (r q : _) (s t : _)
     → look-up.Post κs a r s → look-up.Post κs' b q t → a .1 .0 ≡ b .1 .0 → a .1 .1 .0 ≡ b .1 .1 .0
@@ -122,9 +120,9 @@ position-answered κs a r s kept cell north east n e =
 -- the exported calls: what their answers say, taken apart
 pub host-post-answered : (κs : L.Lfts 1) (a : K.Dens κs host-post-kinds.ps) (r : _) (s : _) → host-post.Post κs a r s → Cell (now (a .0))
     → a .1 .0 < factsIn (now (a .0)) .grid .columns → a .1 .1 .0 < factsIn (now (a .0)) .grid .posts
-    → Answered (voidsAllowed (factsIn (now (a .0)))) (toldIn telling.post r)
+    → Answered (now (a .0)) (a .1 .0) (a .1 .1 .0) (toldIn telling.post r)
 host-post-answered κs a r s kept cell hc hp =
-    subst (Answered (voidsAllowed (factsIn (now (a .0))))) (sym (post-told κs a r s kept))
+    subst (Answered (now (a .0)) (a .1 .0) (a .1 .1 .0)) (sym (post-told κs a r s kept))
     (post-answered-so (now (a .0)) cell (a .1 .0) (a .1 .1 .0) hc hp)
 
 pub host-post-local : (κs κs' : L.Lfts 1) (a : K.Dens κs host-post-kinds.ps) (b : K.Dens κs' host-post-kinds.ps) (r q : _) (s t : _)

@@ -2,7 +2,8 @@
 -- answers of the whole.
 use Prim.Native.Nat.{ℕ}
 use mathlib.Core.Path.{_≡_, sym, ap, subst, _∙_}
-use mathlib.Core.List.{List, [], _∷_}
+use mathlib.Core.Bool.{true}
+use mathlib.Core.List.{List, [], _∷_, _++_}
 use lib.ListN.{take}
 use contract.Lifetimes as L
 use denote.Ref.{now}
@@ -17,7 +18,9 @@ use Rattle.reading.proofs.intake.intake.Reads as intake
 use Rattle.reading.proofs.intake.intake.Kinds as intake-kinds
 use Rattle.stepping.specs.Steps.{Fed, firstPiece, laterPieces}
 use Rattle.stepping.specs.declared.steps.Phase.{Phase}
+use Rattle.stepping.specs.Turns.{isFinal}
 use Rattle.stepping.proofs.StepsWhole.{steps-whole}
+use Rattle.stepping.proofs.StoppedEarly as early
 use Rattle.stepping.proofs.steps.Steps.new.Reads as new
 use Rattle.stepping.proofs.steps.Steps.new.Kinds as new-kinds
 use Rattle.stepping.proofs.steps.Steps.step.Reads as step
@@ -25,13 +28,13 @@ use Rattle.stepping.proofs.steps.Steps.step.Kinds as step-kinds
 
 -- calls of `step`, each of which keeps its promise and is handed the state that the one before gave back, take these pieces; the last answers w
 pub data Steps : Phase → List ℕ → List (List ℕ) → Verdict → Type 1 where
-  last : (κs : L.Lfts 1) (a : K.Dens κs step-kinds.ps) (r : _) (s : _) → step.Pre κs a → step.Post κs a r s → Steps (a .0 .phase) (now (a .1 .0)) [] (r .answer)
+  last : (κs : L.Lfts 1) (a : K.Dens κs step-kinds.ps) (r : _) (s : _) → step.Post κs a r s → Steps (a .0 .phase) (now (a .1 .0)) [] (r .answer)
   then : {piece : List ℕ} {pieces : List (List ℕ)} {w : Verdict} (κs : L.Lfts 1) (a : K.Dens κs step-kinds.ps) (r : _) (s : _)
-      → step.Pre κs a → step.Post κs a r s → Steps (r .steps .phase) piece pieces w → Steps (a .0 .phase) (now (a .1 .0)) (piece ∷ pieces) w
+      → step.Post κs a r s → Steps (r .steps .phase) piece pieces w → Steps (a .0 .phase) (now (a .1 .0)) (piece ∷ pieces) w
 
 fed : {phase : Phase} {piece : List ℕ} {pieces : List (List ℕ)} {w : Verdict} → Steps phase piece pieces w → Fed phase piece pieces w
-fed (last κs a r s asked kept) = kept .said
-fed (then {piece = piece} {pieces = pieces} {w = w} κs a r s asked kept rest) =
+fed (last κs a r s kept) = kept .said
+fed (then {piece = piece} {pieces = pieces} {w = w} κs a r s kept rest) =
     (r .answer, (kept .said, subst (λ (phase : Phase). Fed phase piece pieces w) (kept .state) (fed rest)))
 
 -- the pieces of a file after its headers: a column each, then the rest
@@ -47,3 +50,12 @@ pub stepped-whole : (l : List ℕ) (κ₀ : L.Lfts 0) (b : K.Dens κ₀ new-kind
 stepped-whole l κ₀ b fresh t new-kept w calls κs a v s kept same =
     let begun = subst (λ (phase : Phase). Fed phase (take headerBytes l) (firstColumn l ∷ laterColumns l) w) new-kept (fed calls) in
     told-injective telling.intake w v (steps-whole l w begun ∙ sym (kept ∙ ap taken same))
+
+-- so also for a caller who stops at the first final answer, with the rest of the pieces not fed
+pub stopped-whole : (l : List ℕ) (κ₀ : L.Lfts 0) (b : K.Dens κ₀ new-kinds.ps) (fresh : _) (t : _) → new.Post κ₀ b fresh t
+    → (pieces rest : List (List ℕ)) → pieces ++ rest ≡ firstColumn l ∷ laterColumns l
+    → (w : Verdict) → isFinal w ≡ true → Steps (fresh .phase) (take headerBytes l) pieces w
+    → (κs : L.Lfts 1) (a : K.Dens κs intake-kinds.ps) (v : _) (s : _) → intake.Post κs a v s → now (a .0) ≡ l → w ≡ v
+stopped-whole l κ₀ b fresh t new-kept pieces rest all w final calls κs a v s kept same =
+    let begun = subst (λ (phase : Phase). Fed phase (take headerBytes l) pieces w) new-kept (fed calls) in
+    told-injective telling.intake w v (early.stopped-whole l pieces rest w final all begun ∙ sym (kept ∙ ap taken same))

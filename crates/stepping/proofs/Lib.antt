@@ -3,4 +3,5 @@ pub mod Pieces
 pub mod Kept
 pub mod StepByStep
 pub mod StepsWhole
+pub mod StoppedEarly
 pub mod TurnsLeft

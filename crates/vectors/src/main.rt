@@ -79,10 +79,18 @@ fn put_headers(cell: &mut [u8], d: Description) {
     }
 }
 
+// A state without a level, one without a zone, and one whose column is missing.
+fn print_made_up() {
+    printing::verdict(OUTPUT, stream::from_made_up(3, 0));
+    printing::verdict(OUTPUT, stream::from_made_up(0, 90));
+    printing::verdict(OUTPUT, stream::from_made_up(0, 89));
+}
+
 fn main() {
     print_streamed(0);
     print_streamed(1);
     print_streamed(2);
+    print_made_up();
     let mut cell = [0u8; ROOM];
     io::read_full(INPUT, &mut cell);
     judge(&cell, 3427);

@@ -1,5 +1,7 @@
 // A whole cell that is never held whole: each piece is written into one buffer and stepped through intake from there.
 use answers::Verdict;
+use stepping::steps::Due;
+use stepping::steps::Phase;
 use stepping::steps::Steps;
 
 // The longest column, and its posts.
@@ -53,4 +55,18 @@ pub fn stream(level: usize, columns: usize, posts: usize) -> Verdict {
     }
     let last = steps.step(b"");
     last.answer
+}
+
+// What a state answers that no step made: columns are due of a level and an edge that there may not be.
+pub fn from_made_up(level: usize, edge: usize) -> Verdict {
+    let steps = Steps {
+        phase: Phase::Columns(Due {
+            level,
+            edge,
+            voids: false,
+            next: 0,
+        }),
+    };
+    let stepped = steps.step(b"");
+    stepped.answer
 }
