@@ -31,13 +31,20 @@ use Rattle.dted.proofs.cells.dted_post.Kinds as host-post-kinds
 use Rattle.demands.proofs.HostAnswers.{was-done}
 use Rattle.demands.proofs.HostTold.{post-told}
 
--- after an edit that was judged done: what is told of its post, and of any other
-module _ (l : List ℕ) (cell : Cell l) (bytes : (i : ℕ) → getD l i 0 < 256) (c p : ℕ) (z : ℤ) (e : judgedEdit l c p z ≡ Done) where
-  own-told : lookedUp (edited l c p z) c p ≡ saidOf z
-  own-told = let it = accepted-exactly l c p z .0 e in let on = it .0 .on in edited-post l cell bytes c p (on .column) (on .post) z (it .1)
+-- after an edit that was judged done, in the bytes m that it left: what is told of its post, and of any other
+module _ (l : List ℕ) (cell : Cell l) (bytes : (i : ℕ) → getD l i 0 < 256) (c p : ℕ) (z : ℤ) (e : judgedEdit l c p z ≡ Done)
+    (m : List ℕ) (left : m ≡ edited l c p z) (k i : ℕ) where
+  own-told : k ≡ c → i ≡ p → lookedUp m k i ≡ saidOf z
+  own-told same-c same-p =
+      let it = accepted-exactly l c p z .0 e in
+      let on = it .0 .on in
+      (λ j. lookedUp (left j) (same-c j) (same-p j)) ∙ edited-post l cell bytes c p (on .column) (on .post) z (it .1)
 
-  other-told : (k i : ℕ) → (k ≡ c → i ≡ p → ⊥) → lookedUp (edited l c p z) k i ≡ lookedUp l k i
-  other-told k i other = let it = accepted-exactly l c p z .0 e in let on = it .0 .on in other-post l cell bytes c p (on .column) (on .post) z (it .1) k i other
+  other-told : (k ≡ c → i ≡ p → ⊥) → lookedUp m k i ≡ lookedUp l k i
+  other-told other =
+      let it = accepted-exactly l c p z .0 e in
+      let on = it .0 .on in
+      (λ j. lookedUp (left j) k i) ∙ other-post l cell bytes c p (on .column) (on .post) z (it .1) k i other
 
 -- a call of the edit that keeps its promise and was done
 module _ (κs : L.Lfts 1) (a : K.Dens κs edit-kinds.ps) (r : _) (s : _) (kept : edit.Post κs a r s) (was : r ≡ Done)
@@ -50,8 +57,7 @@ module _ (κs : L.Lfts 1) (a : K.Dens κs edit-kinds.ps) (r : _) (s : _) (kept :
   pub edited-answered : (κs' : L.Lfts 1) (b : K.Dens κs' look-up-kinds.ps) (q : _) (t : _) → look-up.Post κs' b q t
       → now (b .0) ≡ now (s .0) → b .1 .0 ≡ a .1 .0 → b .1 .1 .0 ≡ a .1 .1 .0 → told telling.post q ≡ saidOf (a .1 .1 .1 .0)
   edited-answered κs' b q t kept' same c p =
-      kept' ∙ (λ k. lookedUp (same k) (c k) (p k)) ∙ ap (λ (m : List ℕ). lookedUp m (a .1 .0) (a .1 .1 .0)) (kept .1)
-      ∙ own-told (now (a .0)) cell bytes (a .1 .0) (a .1 .1 .0) (a .1 .1 .1 .0) judged-done
+      kept' ∙ own-told (now (a .0)) cell bytes (a .1 .0) (a .1 .1 .0) (a .1 .1 .1 .0) judged-done (now (b .0)) (same ∙ kept .1) (b .1 .0) (b .1 .1 .0) c p
 
   -- lookups of another post, before and afterwards
   pub others-answered : (κs' κs'' : L.Lfts 1) (b : K.Dens κs' look-up-kinds.ps) (b' : K.Dens κs'' look-up-kinds.ps) (q q' : _) (t t' : _)
@@ -59,8 +65,8 @@ module _ (κs : L.Lfts 1) (a : K.Dens κs edit-kinds.ps) (r : _) (s : _) (kept :
       → b' .1 .0 ≡ b .1 .0 → b' .1 .1 .0 ≡ b .1 .1 .0 → (b .1 .0 ≡ a .1 .0 → b .1 .1 .0 ≡ a .1 .1 .0 → ⊥) → q' ≡ q
   others-answered κs' κs'' b b' q q' t t' before after at-first at-last c p other =
       told-injective telling.post q' q
-      (after ∙ (λ k. lookedUp (at-last k) (c k) (p k)) ∙ ap (λ (m : List ℕ). lookedUp m (b .1 .0) (b .1 .1 .0)) (kept .1)
-      ∙ other-told (now (a .0)) cell bytes (a .1 .0) (a .1 .1 .0) (a .1 .1 .1 .0) judged-done (b .1 .0) (b .1 .1 .0) other
+      (after ∙ (λ k. lookedUp (now (b' .0)) (c k) (p k))
+      ∙ other-told (now (a .0)) cell bytes (a .1 .0) (a .1 .1 .0) (a .1 .1 .1 .0) judged-done (now (b' .0)) (at-last ∙ kept .1) (b .1 .0) (b .1 .1 .0) other
       ∙ sym (before ∙ ap (λ (m : List ℕ). lookedUp m (b .1 .0) (b .1 .1 .0)) at-first))
 
 -- the same for a C host: the edit answered 0
@@ -73,13 +79,15 @@ module _ (κs : L.Lfts 1) (a : K.Dens κs host-edit-kinds.ps) (r : _) (s : _) (k
   pub host-edited-answered : (κs' : L.Lfts 1) (b : K.Dens κs' host-post-kinds.ps) (q : _) (t : _) → host-post.Post κs' b q t
       → now (b .0) ≡ now (s .0) → b .1 .0 ≡ a .1 .0 → b .1 .1 .0 ≡ a .1 .1 .0 → toldIn telling.post q ≡ saidOf (a .1 .1 .1 .0)
   host-edited-answered κs' b q t kept' same c p =
-      post-told κs' b q t kept' ∙ (λ k. lookedUp (same k) (c k) (p k)) ∙ ap (λ (m : List ℕ). lookedUp m (a .1 .0) (a .1 .1 .0)) (kept .1)
-      ∙ own-told (now (a .0)) cell bytes (a .1 .0) (a .1 .1 .0) (a .1 .1 .1 .0) host-judged-done
+      post-told κs' b q t kept'
+      ∙ own-told (now (a .0)) cell bytes (a .1 .0) (a .1 .1 .0) (a .1 .1 .1 .0) host-judged-done (now (b .0)) (same ∙ kept .1) (b .1 .0) (b .1 .1 .0) c p
 
   pub host-others-answered : (κs' κs'' : L.Lfts 1) (b : K.Dens κs' host-post-kinds.ps) (b' : K.Dens κs'' host-post-kinds.ps) (q q' : _) (t t' : _)
       → host-post.Post κs' b q t → host-post.Post κs'' b' q' t' → now (b .0) ≡ now (a .0) → now (b' .0) ≡ now (s .0)
       → b' .1 .0 ≡ b .1 .0 → b' .1 .1 .0 ≡ b .1 .1 .0 → (b .1 .0 ≡ a .1 .0 → b .1 .1 .0 ≡ a .1 .1 .0 → ⊥) → q' ≡ q
   host-others-answered κs' κs'' b b' q q' t t' before after at-first at-last c p other =
-      after ∙ (λ k. packed (lookedUp (at-last k) (c k) (p k))) ∙ ap (λ (m : List ℕ). packed (lookedUp m (b .1 .0) (b .1 .1 .0))) (kept .1)
-      ∙ ap packed (other-told (now (a .0)) cell bytes (a .1 .0) (a .1 .1 .0) (a .1 .1 .1 .0) host-judged-done (b .1 .0) (b .1 .1 .0) other)
+      let same =
+      other-told (now (a .0)) cell bytes (a .1 .0) (a .1 .1 .0) (a .1 .1 .1 .0) host-judged-done (now (b' .0)) (at-last ∙ kept .1) (b .1 .0) (b .1 .1 .0) other
+      in
+      after ∙ (λ k. packed (lookedUp (now (b' .0)) (c k) (p k))) ∙ ap packed same
       ∙ sym (before ∙ ap (λ (m : List ℕ). packed (lookedUp m (b .1 .0) (b .1 .1 .0))) at-first)

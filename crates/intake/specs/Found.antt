@@ -1,4 +1,4 @@
--- What the program finds on standard input (rule S7): a final answer that a step gives, or that a call of read failed.
+-- What the program finds on standard input (rule S7): a final answer that a step gives, or a negative number, as a failed read answers.
 use mathlib.Core.Path.{_≡_}
 use mathlib.Core.Bool.{true}
 use mathlib.Core.List.{List}
