@@ -9,20 +9,42 @@
  * threads at once, nor read while it is edited. Bytes may stand at any address; `items` is aligned as int64_t is. A call needs
  * less than 16 KB of stack. The header is for C99 and C++; of the C library the archive needs memset alone.
  *
- * ANSWERS. A call answers one 64-bit number: the refusal's number in the top 8 bits, 0 where the call was not refused, and
- * its place, or the call's value, in the low 56. Values have 16 bits each, from bit 0 up: posts, columns and level; a height in
- * two's complement, and above it, for a position, post and column. The takers-apart below read them; of a refusal, dted_number
- * and dted_place alone say anything.
+ * ANSWERS. A call answers a dted_answer. dted_number says whether it was refused: DTED_OK where not, else why, and dted_place where.
+ * The other functions below take out what an accepted answer holds: each says of which calls it takes an answer. Given any
+ * other answer, a refusal among them, they give 0, or DTED_VOID for a height; where DTED_CHECK is defined before this header is read,
+ * they stop the program instead, by assert.
  */
 #ifndef DTED_H
 #define DTED_H
 
 #include <stddef.h>
 #include <stdint.h>
+#ifdef DTED_CHECK
+#include <assert.h>
+#endif
+
+#define DTED_VERSION "0.2.0"
+#define DTED_VERSION_MAJOR 0
+#define DTED_VERSION_MINOR 2
+#define DTED_VERSION_PATCH 0
+
+/* The compiler says where an answer is dropped: it alone tells whether anything was done. */
+#if defined(__GNUC__)
+#define DTED_MUST_USE __attribute__((warn_unused_result))
+#else
+#define DTED_MUST_USE
+#endif
 
 #ifdef __cplusplus
 extern "C" {
 #endif
+
+/* What a call answers. It is a type of its own, so that it cannot be taken for a column or a height; `bits` is for the functions
+ * below: the refusal's number in the top 8 and its place in the other 56, or 0, what the answer holds in the next 8, and three values
+ * of 16 each. It is passed as a uint64_t is. */
+typedef struct {
+    uint64_t bits;
+} dted_answer;
 
 /* Refusals, and the place that each gives. */
 enum {
@@ -80,39 +102,39 @@ enum {
 
 /* Judges a whole cell. Order: 1, 2, then column after column from the west 3, 4, 5, 6, then 7. Answers level, columns and
  * posts to a column. */
-uint64_t dted_intake(const uint8_t *cell, size_t length);
+DTED_MUST_USE dted_answer dted_intake(const uint8_t *cell, size_t length);
 
 /* The description of a cell, from its headers alone. Order: 1, 2. Fills all of `items`, or none where it is refused. Answers
  * 0. */
-uint64_t dted_describe(const uint8_t *cell, size_t length, int64_t items[DTED_ITEMS]);
+DTED_MUST_USE dted_answer dted_describe(const uint8_t *cell, size_t length, int64_t items[DTED_ITEMS]);
 
 /* The height of one post; column 0 is the western one, post 0 the southern one. Order: 1, 2, 8, then 3, 4, 5, 6 for that
  * column alone. Answers the height, or DTED_VOID. */
-uint64_t dted_post(const uint8_t *cell, size_t length, uint64_t column, uint64_t post);
+DTED_MUST_USE dted_answer dted_post(const uint8_t *cell, size_t length, uint64_t column, uint64_t post);
 
 /* The post nearest a position, in tenths of arc-seconds, north and east positive, edges included; of two equally near the
  * western or southern one. 6480000 and -6480000 are one meridian. Order as for dted_post. Answers column, post and height. */
-uint64_t dted_position(const uint8_t *cell, size_t length, int64_t latitude, int64_t longitude);
+DTED_MUST_USE dted_answer dted_position(const uint8_t *cell, size_t length, int64_t latitude, int64_t longitude);
 
 /* Makes one post this height, or DTED_VOID. Order as for dted_post, then 11. It writes the two bytes of the post and the four
  * of its column's checksum, and nothing else. Answers 0. */
-uint64_t dted_edit(uint8_t *cell, size_t length, uint64_t column, uint64_t post, int64_t height);
+DTED_MUST_USE dted_answer dted_edit(uint8_t *cell, size_t length, uint64_t column, uint64_t post, int64_t height);
 
 /* ---- writers ---- */
 
 /* The columns of a cell, and the posts to a column, from its level and origin latitude. Order: 9 (item 1, then 2). Answers as
  * dted_intake does. dted_cell_length makes a length of the answer. */
-uint64_t dted_grid(uint64_t level, int64_t latitude);
+DTED_MUST_USE dted_answer dted_grid(uint64_t level, int64_t latitude);
 
 /* Writes the cell of `items` and of a grid at the front of `out`; bytes past the cell stay. The grid is 16-bit two's complement
  * heights, high byte first, column after column from the west and each from the south: `bytes` is its length in bytes. Order: 9
  * (lowest item), 10 (also where `bytes` is odd), 11 (lowest index), 12. Answers 0; the cell's length is that of dted_grid's answer
  * for its level and latitude. */
-uint64_t dted_write(uint8_t *out, size_t room, const int64_t items[DTED_ITEMS], const uint8_t *grid, size_t bytes);
+DTED_MUST_USE dted_answer dted_write(uint8_t *out, size_t room, const int64_t items[DTED_ITEMS], const uint8_t *grid, size_t bytes);
 
 /* Writes one column from a level, its number and its posts, voids allowed, at the front of `out`; bytes past it stay. Posts as in
  * a grid. Order: 9 (item 1), 8 (a number not below the level's columns at the equator), 10, 11, 12. Answers 0. */
-uint64_t dted_write_column(uint8_t *out, size_t room, uint64_t level, uint64_t number, const uint8_t *posts, size_t bytes);
+DTED_MUST_USE dted_answer dted_write_column(uint8_t *out, size_t room, uint64_t level, uint64_t number, const uint8_t *posts, size_t bytes);
 
 #ifdef __cplusplus
 }
@@ -125,34 +147,62 @@ uint64_t dted_write_column(uint8_t *out, size_t room, uint64_t level, uint64_t n
 
 /* ---- answers, taken apart ---- */
 
-/* The refusal's number, DTED_OK where there is none. */
-static inline unsigned dted_number(uint64_t answer) { return (unsigned)(answer >> 56); }
+/* Why the call was refused; DTED_OK where it was not. For the answer of every call. */
+static inline unsigned dted_number(dted_answer answer) { return (unsigned)(answer.bits >> 56); }
 
-/* The place of a refusal. */
-static inline uint64_t dted_place(uint64_t answer) { return answer & UINT64_C(0xFFFFFFFFFFFFFF); }
+/* What an answer holds that is no refusal; those of dted_describe, dted_edit and the writers hold nothing. */
+enum {
+    DTED_HOLDS_NOTHING = 0,
+    DTED_HOLDS_GRID = 1,
+    DTED_HOLDS_HEIGHT = 2,
+    DTED_HOLDS_POSITION = 3
+};
+static inline int dted_holds(dted_answer answer, unsigned what) { return answer.bits >> 48 == what; }
 
-/* What dted_intake and dted_grid answer. */
-static inline unsigned dted_level(uint64_t answer) { return (unsigned)(answer >> 32 & 0xFFFF); }
-static inline unsigned dted_columns(uint64_t answer) { return (unsigned)(answer >> 16 & 0xFFFF); }
-static inline unsigned dted_posts(uint64_t answer) { return (unsigned)(answer & 0xFFFF); }
-
-/* The bytes of a column and of a whole cell, of such an answer. */
-static inline size_t dted_column_length(uint64_t answer) { return 12 + 2 * (size_t)dted_posts(answer); }
-static inline size_t dted_cell_length(uint64_t answer) {
-    return DTED_HEADER_BYTES + (size_t)dted_columns(answer) * dted_column_length(answer);
+/* Of the functions below: whether the answer is one that they are for. */
+static inline int dted_is_for(int good) {
+#ifdef DTED_CHECK
+    assert(good && "an answer that does not hold what is taken out of it");
+#endif
+    return good;
 }
 
-/* What dted_post and dted_position answer: metres, or DTED_VOID; DTED_VOID also for an answer that is a refusal. */
-static inline int dted_height(uint64_t answer) {
-    int word = (int)(answer & 0xFFFF);
-    if (dted_number(answer) != DTED_OK)
+/* 16 bits of an answer that holds this, from bit `at` up. */
+static inline unsigned dted_value(dted_answer answer, unsigned what, unsigned at) {
+    return dted_is_for(dted_holds(answer, what)) ? (unsigned)(answer.bits >> at & 0xFFFF) : 0;
+}
+
+/* Where: the place of a refusal. */
+static inline uint64_t dted_place(dted_answer answer) {
+    return dted_is_for(dted_number(answer) != DTED_OK) ? answer.bits & UINT64_C(0xFFFFFFFFFFFFFF) : 0;
+}
+
+/* Of dted_intake and dted_grid: the level, the columns, and the posts to a column. */
+static inline unsigned dted_level(dted_answer grid) { return dted_value(grid, DTED_HOLDS_GRID, 32); }
+static inline unsigned dted_columns(dted_answer grid) { return dted_value(grid, DTED_HOLDS_GRID, 16); }
+static inline unsigned dted_posts(dted_answer grid) { return dted_value(grid, DTED_HOLDS_GRID, 0); }
+
+/* Of the same: the bytes of a column, and of the whole cell. */
+static inline size_t dted_column_length(dted_answer grid) {
+    unsigned posts = dted_posts(grid);
+    return posts == 0 ? 0 : 12 + 2 * (size_t)posts;
+}
+static inline size_t dted_cell_length(dted_answer grid) {
+    size_t column = dted_column_length(grid);
+    return column == 0 ? 0 : DTED_HEADER_BYTES + dted_columns(grid) * column;
+}
+
+/* Of dted_post and dted_position: metres, or DTED_VOID. */
+static inline int dted_height(dted_answer post) {
+    int word = (int)(post.bits & 0xFFFF);
+    if (!dted_is_for(dted_holds(post, DTED_HOLDS_HEIGHT) || dted_holds(post, DTED_HOLDS_POSITION)))
         return DTED_VOID;
     return word < 0x8000 ? word : word - 0x10000;
 }
 
-/* And of dted_position, the post's column and number. */
-static inline unsigned dted_position_column(uint64_t answer) { return (unsigned)(answer >> 32 & 0xFFFF); }
-static inline unsigned dted_position_post(uint64_t answer) { return (unsigned)(answer >> 16 & 0xFFFF); }
+/* Of dted_position: the column and the number of the post. */
+static inline unsigned dted_position_column(dted_answer position) { return dted_value(position, DTED_HOLDS_POSITION, 32); }
+static inline unsigned dted_position_post(dted_answer position) { return dted_value(position, DTED_HOLDS_POSITION, 16); }
 
 /* ---- words and heights in bytes ---- */
 
