@@ -77,7 +77,7 @@ module _ (κs : L.Lfts 1) (a : K.Dens κs host-edit-kinds.ps) (r : _) (s : _) (k
   host-judged-done = was-done (judgedEdit (now (a .0)) (a .1 .0) (a .1 .1 .0) (a .1 .1 .1 .0)) (sym (kept .0) ∙ was)
 
   pub host-edited-answered : (κs' : L.Lfts 1) (b : K.Dens κs' host-post-kinds.ps) (q : _) (t : _) → host-post.Post κs' b q t
-      → now (b .0) ≡ now (s .0) → b .1 .0 ≡ a .1 .0 → b .1 .1 .0 ≡ a .1 .1 .0 → toldIn telling.post q ≡ saidOf (a .1 .1 .1 .0)
+      → now (b .0) ≡ now (s .0) → b .1 .0 ≡ a .1 .0 → b .1 .1 .0 ≡ a .1 .1 .0 → toldIn q ≡ saidOf (a .1 .1 .1 .0)
   host-edited-answered κs' b q t kept' same c p =
       post-told κs' b q t kept'
       ∙ own-told (now (a .0)) cell bytes (a .1 .0) (a .1 .1 .0) (a .1 .1 .1 .0) host-judged-done (now (b .0)) (same ∙ kept .1) (b .1 .0) (b .1 .1 .0) c p

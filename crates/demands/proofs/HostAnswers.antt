@@ -17,7 +17,6 @@ use Rattle.answers.proofs.Injective.{refusal-told}
 use Rattle.packing.specs.Packed.{packed}
 use Rattle.reading.specs.Intake.{taken}
 use Rattle.reading.proofs.IntakeExactly.{IntakeRow, bad-headers, cut, column, surplus, fine, row}
-use Rattle.writing.proofs.OwnGrid.{cell-facts}
 use Rattle.dted.proofs.cells.dted_intake.Reads as intake
 use Rattle.dted.proofs.cells.dted_intake.Kinds as intake-kinds
 use Rattle.demands.proofs.PlacesFit.{number-ranged}
@@ -45,14 +44,14 @@ answer-is Done t e = eq-eqb (packed (told act Done)) 0 done-0 ∙ sym (e .0 refl
 answer-is (Refused r) true e = absurd (never-0 r (ap (λ (x : Outcome). packed (told act x)) (e .1 refl) ∙ done-0))
 answer-is (Refused r) false e = ne-eqb (packed (numbered r)) 0 (never-0 r)
 
--- a refusal's number is above 0, and so are the posts to a column of an accepted cell
+-- a refusal's number is above 0, and an accepted cell's answer holds a grid
 by-row : (s : List ℕ) (t : Told) → IntakeRow s t → packed t ≡ 0 → ⊥
 unfolding packed
 by-row s _ (bad-headers r e) z = never-0 r z
 by-row s _ (cut h k u f short) z = omega arith
 by-row s _ (column h k u f whole r e) z = never-0 r z
 by-row s _ (surplus h f past) z = omega arith
-by-row s _ (fine cell) z = let g = cell-facts s cell .grid in omega (arith, g .posts-low, g .posts-high)
+by-row s _ (fine cell) z = omega arith
 
 -- so 0 is no answer of intake
 pub intake-never-0 : (κs : L.Lfts 1) (a : K.Dens κs intake-kinds.ps) (r : _) (s : _) → intake.Post κs a r s → r ≡ 0 → ⊥

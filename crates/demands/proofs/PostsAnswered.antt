@@ -120,7 +120,7 @@ position-answered κs a r s kept cell north east n e =
 -- the exported calls: what their answers say, taken apart
 pub host-post-answered : (κs : L.Lfts 1) (a : K.Dens κs host-post-kinds.ps) (r : _) (s : _) → host-post.Post κs a r s → Cell (now (a .0))
     → a .1 .0 < factsIn (now (a .0)) .grid .columns → a .1 .1 .0 < factsIn (now (a .0)) .grid .posts
-    → Answered (now (a .0)) (a .1 .0) (a .1 .1 .0) (toldIn telling.post r)
+    → Answered (now (a .0)) (a .1 .0) (a .1 .1 .0) (toldIn r)
 host-post-answered κs a r s kept cell hc hp =
     subst (Answered (now (a .0)) (a .1 .0) (a .1 .1 .0)) (sym (post-told κs a r s kept))
     (post-answered-so (now (a .0)) cell (a .1 .0) (a .1 .1 .0) hc hp)
@@ -133,7 +133,7 @@ host-post-local κs κs' a b r q s t kept kept' c p alike =
 
 pub host-position-answered : (κs : L.Lfts 1) (a : K.Dens κs host-position-kinds.ps) (r : _) (s : _) → host-position.Post κs a r s → Cell (now (a .0))
     → (north east : ℕ) → northOf (factsIn (now (a .0))) (a .1 .0) ≡ On north → eastOf (factsIn (now (a .0))) (a .1 .1 .0) ≡ On east
-    → AnsweredNear (now (a .0)) north east (toldIn telling.position r)
+    → AnsweredNear (now (a .0)) north east (toldIn r)
 host-position-answered κs a r s kept cell north east n e =
     subst (AnsweredNear (now (a .0)) north east) (sym (position-told κs a r s kept))
     (position-answered-so (now (a .0)) cell (a .1 .0) (a .1 .1 .0) north east n e)

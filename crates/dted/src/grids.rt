@@ -11,7 +11,7 @@ pub extern "C" fn dted_grid(level: u64, latitude: i64) -> u64
     ensures { λ r. ⌜ r ≡ packed (gridTold level latitude) ⌝ }
 {
     match layout::lay(level as usize, near_edge(latitude)) {
-        Laid::Out(grid) => packing::three(grid.level, grid.columns, grid.posts),
+        Laid::Out(grid) => packing::grid(grid.level, grid.columns, grid.posts),
         Laid::NoLevel => packing::refusal(Refusal::Item(1)),
         Laid::NoZone => packing::refusal(Refusal::Item(2)),
     }

@@ -1,9 +1,10 @@
 -- An answer taken apart as the functions of include/dted.h do, and what its bits can hold (rule B4).
 use Prim.Native.Nat.{ℕ, _-_, _/_, _%_, _<_}
+use mathlib.Core.Bool.{Bool}
 use lib.Dec.{eqb, ltb}
 use lib.IntN.{ℤ, pos, negsuc, negℤ}
 use Rattle.octets.specs.Choice.{pick}
-use Rattle.answers.specs.Told.{Told, refused, more, accepted, height, void, heightAt, voidAt, done, Kind, intake, post, position, act}
+use Rattle.answers.specs.Told.{Told, refused, more, accepted, height, void, heightAt, voidAt, done}
 
 -- dted_number and dted_place
 abbrev pub numberIn : ℕ → ℕ
@@ -11,6 +12,10 @@ numberIn r = r / 72057594037927936
 
 abbrev pub placeIn : ℕ → ℕ
 placeIn r = r % 72057594037927936
+
+-- dted_holds: the number above, which is 0 where it is no refusal, and what is held
+abbrev pub heldIn : ℕ → ℕ
+heldIn r = r / 281474976710656
 
 -- values of 16 bits: dted_level or dted_position_column; dted_columns or dted_position_post; dted_posts
 abbrev pub firstIn : ℕ → ℕ
@@ -26,19 +31,23 @@ thirdIn r = r % 65536
 abbrev pub heightIn : ℕ → ℤ
 heightIn r = pick (ltb (thirdIn r) 32768) (pos (thirdIn r)) (negℤ (pos (65536 - thirdIn r)))
 
-abbrev pub voidBits : ℕ
-voidBits = 65536 - 32767
+abbrev pub isVoidIn : ℕ → Bool
+isVoidIn r = eqb (thirdIn r) (65536 - 32767)
 
--- what each kind of call says where it was not refused
-abbrev pub valuesIn : Kind → ℕ → Told
-valuesIn intake r = accepted (firstIn r) (secondIn r) (thirdIn r)
-valuesIn post r = pick (eqb (thirdIn r) voidBits) void (height (heightIn r))
-valuesIn position r = pick (eqb (thirdIn r) voidBits) (voidAt (firstIn r) (secondIn r)) (heightAt (firstIn r) (secondIn r) (heightIn r))
-valuesIn act r = done
+-- what an answer that is no refusal says, by what it holds
+abbrev pub valuesIn : ℕ → Told
+valuesIn r =
+    pick
+    (eqb (heldIn r) 1)
+    (accepted (firstIn r) (secondIn r) (thirdIn r))
+    (pick
+    (eqb (heldIn r) 2)
+    (pick (isVoidIn r) void (height (heightIn r)))
+    (pick (eqb (heldIn r) 3) (pick (isVoidIn r) (voidAt (firstIn r) (secondIn r)) (heightAt (firstIn r) (secondIn r) (heightIn r))) done))
 
--- B4: what the answer of a call of this kind says
-unfoldable pub toldIn : Kind → ℕ → Told
-toldIn k r = pick (eqb (numberIn r) 0) (valuesIn k r) (refused (numberIn r) (placeIn r))
+-- B4: what an answer says
+unfoldable pub toldIn : ℕ → Told
+toldIn r = pick (eqb (numberIn r) 0) (valuesIn r) (refused (numberIn r) (placeIn r))
 
 -- a height of 16 bits that is not void's number. `negsuc n` is -(n + 1)
 abbrev pub FitsHeight : ℤ → Type 0

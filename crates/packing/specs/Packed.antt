@@ -1,4 +1,5 @@
--- An answer as one number of 64 bits (rule B4): a refusal's number in the top 8 bits and its place in the other 56, or the values.
+-- An answer as one number of 64 bits (rule B4): a refusal's number in the top 8 bits and its place in the other 56; or 0, what the
+-- answer holds, and three values.
 use Prim.Native.Nat.{ℕ, _+_, _-_, _*_, _%_}
 use lib.IntN.{ℤ, pos, negsuc, negℤ}
 use Rattle.answers.specs.Told.{Told, refused, more, accepted, height, void, heightAt, voidAt, done}
@@ -8,9 +9,23 @@ abbrev pub bits : ℤ → ℕ
 bits (pos n) = n % 65536
 bits (negsuc n) = 65535 - n % 65536
 
--- three values of 16 bits, the first one highest
-abbrev pub three : ℕ → ℕ → ℕ → ℕ
-three a b c = a % 65536 * 4294967296 + b % 65536 * 65536 + c % 65536
+-- void, as a height of a C host
+abbrev pub voidBits : ℕ
+voidBits = bits (negℤ (pos 32767))
+
+-- what an answer that is no refusal holds: nothing, which is 0; a grid; a height; a position, which is a post with its height
+abbrev pub aGrid : ℕ
+aGrid = 1
+
+abbrev pub aHeight : ℕ
+aHeight = 2
+
+abbrev pub aPosition : ℕ
+aPosition = 3
+
+-- 8 bits that say what is held, and three values of 16 bits, the first one highest
+abbrev pub holding : ℕ → ℕ → ℕ → ℕ → ℕ
+holding what a b c = what % 256 * 281474976710656 + a % 65536 * 4294967296 + b % 65536 * 65536 + c % 65536
 
 -- a refusal: its number and its place, each in its bits; that none is cut is shown of each call, in `demands`
 abbrev pub refusal : ℕ → ℕ → ℕ
@@ -20,9 +35,9 @@ refusal number place = number % 256 * 72057594037927936 + place % 72057594037927
 unfoldable pub packed : Told → ℕ
 packed (refused number place) = refusal number place
 packed more = 0
-packed (accepted level columns posts) = three level columns posts
-packed (height z) = three 0 0 (bits z)
-packed void = three 0 0 (bits (negℤ (pos 32767)))
-packed (heightAt column post z) = three column post (bits z)
-packed (voidAt column post) = three column post (bits (negℤ (pos 32767)))
+packed (accepted level columns posts) = holding aGrid level columns posts
+packed (height z) = holding aHeight 0 0 (bits z)
+packed void = holding aHeight 0 0 voidBits
+packed (heightAt column post z) = holding aPosition column post (bits z)
+packed (voidAt column post) = holding aPosition column post voidBits
 packed done = 0

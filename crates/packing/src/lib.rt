@@ -11,6 +11,13 @@ use answers::Verdict;
 // Void, as heights are given and answered.
 const VOID: i16 = -32767;
 
+// What an answer that is no refusal holds; 0 is nothing.
+const A_GRID: usize = 1;
+
+const A_HEIGHT: usize = 2;
+
+const A_POSITION: usize = 3;
+
 // The 16 bits of a height.
 fn bits(height: i16) -> usize
     ensures { λ r. ⌜ r ≡ by.bits height ⌝ }
@@ -22,11 +29,21 @@ fn bits(height: i16) -> usize
     }
 }
 
-// Three values of 16 bits, the first one highest.
-pub fn three(a: usize, b: usize, c: usize) -> u64
-    ensures { λ r. ⌜ r ≡ by.three a b c ⌝ }
+// What an answer holds, and three values of 16 bits, the first one highest.
+fn holding(what: usize, a: usize, b: usize, c: usize) -> u64
+    ensures { λ r. ⌜ r ≡ by.holding what a b c ⌝ }
 {
-    (a % 0x10000 * 0x100000000 + b % 0x10000 * 0x10000 + c % 0x10000) as u64
+    (what % 0x100 * 0x1000000000000
+        + a % 0x10000 * 0x100000000
+        + b % 0x10000 * 0x10000
+        + c % 0x10000) as u64
+}
+
+// A level, columns, and posts to a column.
+pub fn grid(level: usize, columns: usize, posts: usize) -> u64
+    ensures { λ r. ⌜ r ≡ by.packed (told.accepted level columns posts) ⌝ }
+{
+    holding(A_GRID, level, columns, posts)
 }
 
 // A refusal's number above its place.
@@ -46,7 +63,7 @@ pub fn verdict(verdict: Verdict) -> u64
             level,
             columns,
             posts,
-        } => three(level, columns, posts),
+        } => grid(level, columns, posts),
         Verdict::Refused(why) => refusal(why),
     }
 }
@@ -55,8 +72,8 @@ pub fn reading(reading: Reading) -> u64
     ensures { λ r. ⌜ r ≡ by.packed (told.told told.post reading) ⌝ }
 {
     match reading {
-        Reading::Height(metres) => three(0, 0, bits(metres)),
-        Reading::Void => three(0, 0, bits(VOID)),
+        Reading::Height(metres) => holding(A_HEIGHT, 0, 0, bits(metres)),
+        Reading::Void => holding(A_HEIGHT, 0, 0, bits(VOID)),
         Reading::Refused(why) => refusal(why),
     }
 }
@@ -69,8 +86,8 @@ pub fn located(located: Located) -> u64
             column,
             post,
             metres,
-        } => three(column, post, bits(metres)),
-        Located::Void { column, post } => three(column, post, bits(VOID)),
+        } => holding(A_POSITION, column, post, bits(metres)),
+        Located::Void { column, post } => holding(A_POSITION, column, post, bits(VOID)),
         Located::Refused(why) => refusal(why),
     }
 }

@@ -12,8 +12,8 @@ enum-known-located c = search needs
 bits-requires : tie.Need-bits-requires
 bits-requires c κs = search needs
 
-three-requires : tie.Need-three-requires
-three-requires c κs = search needs
+holding-requires : tie.Need-holding-requires
+holding-requires c κs = search needs
 
 enum-known-located-2 : tie.Need-enum-known-located-2
 enum-known-located-2 c = search needs
@@ -21,8 +21,8 @@ enum-known-located-2 c = search needs
 bits-requires-2 : tie.Need-bits-requires-2
 bits-requires-2 c κs = search needs
 
-three-requires-2 : tie.Need-three-requires-2
-three-requires-2 c κs = search needs
+holding-requires-2 : tie.Need-holding-requires-2
+holding-requires-2 c κs = search needs
 
 enum-known-located-3 : tie.Need-enum-known-located-3
 enum-known-located-3 c = search needs
@@ -34,11 +34,11 @@ returns : tie.Need-returns
 unfolding packed
 returns c =
     let k = c .before .before in
-    rw (k .before .located .given .1, c .three .ensures, c .before .bits .ensures, toZ-ofZ {w = w16} {z = k .before .located .given .0 .1 .1 .0} (record { sfits = k .known-told .given .1 .1 .0 .1 }))
+    rw (k .before .located .given .1, c .holding .ensures, c .before .bits .ensures, toZ-ofZ {w = w16} {z = k .before .located .given .0 .1 .1 .0} (record { sfits = k .known-told .given .1 .1 .0 .1 }))
 
 returns-2 : tie.Need-returns-2
 unfolding packed
-returns-2 c = rw (c .before .before .before .located2 .given .1, c .three2 .ensures, c .before .bits2 .ensures)
+returns-2 c = rw (c .before .before .before .located2 .given .1, c .holding2 .ensures, c .before .bits2 .ensures)
 
 returns-3 : tie.Need-returns-3
 returns-3 c = rw (c .before .before .located3 .given .1) (c .refusal .ensures)
@@ -49,10 +49,10 @@ located-spec =
     (tie.spec
     enum-known-located
     bits-requires
-    three-requires
+    holding-requires
     enum-known-located-2
     bits-requires-2
-    three-requires-2
+    holding-requires-2
     enum-known-located-3
     refusal-requires
     returns

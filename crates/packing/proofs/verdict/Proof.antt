@@ -10,8 +10,8 @@ enum-told c = search needs
 enum-known-verdict : tie.Need-enum-known-verdict
 enum-known-verdict c = search needs
 
-three-requires : tie.Need-three-requires
-three-requires c κs = search needs
+grid-requires : tie.Need-grid-requires
+grid-requires c κs = search needs
 
 enum-known-verdict-2 : tie.Need-enum-known-verdict-2
 enum-known-verdict-2 c = search needs
@@ -25,7 +25,7 @@ returns c = rw (c .enum-told .given .1)
 
 returns-2 : tie.Need-returns-2
 unfolding packed
-returns-2 c = rw (c .before .before .verdict .given .1) (c .three .ensures)
+returns-2 c = rw (c .before .before .verdict .given .1) (c .grid .ensures)
 
 returns-3 : tie.Need-returns-3
 returns-3 c = rw (c .before .before .verdict2 .given .1) (c .refusal .ensures)
@@ -36,7 +36,7 @@ verdict-spec =
     (tie.spec
     enum-told
     enum-known-verdict
-    three-requires
+    grid-requires
     enum-known-verdict-2
     refusal-requires
     returns

@@ -25,8 +25,8 @@ lay-requires c κs = search needs
 enum-known-grid : tie.Need-enum-known-grid
 enum-known-grid c = search needs
 
-three-requires : tie.Need-three-requires
-three-requires c κs = search needs
+grid-requires : tie.Need-grid-requires
+grid-requires c κs = search needs
 
 enum-told : tie.Need-enum-told
 enum-told c = search needs
@@ -41,10 +41,9 @@ refusal-requires-2 : tie.Need-refusal-requires-2
 refusal-requires-2 c κs = search needs
 
 returns : tie.Need-returns
-unfolding packed
 returns c =
     let g = c .before .before in
-    c .three .ensures ∙ ap packed (sym (found (g .before .before) _ (g .grid .given .1)))
+    c .grid2 .ensures ∙ ap packed (sym (found (g .before .before) _ (g .grid .given .1)))
 
 returns-2 : tie.Need-returns-2
 returns-2 c = c .refusal .ensures ∙ ap packed (sym (found (c .before .before .before) _ (c .before .enum-told .given .1)))
@@ -59,7 +58,7 @@ dted-grid-spec =
     near-edge-requires
     lay-requires
     enum-known-grid
-    three-requires
+    grid-requires
     enum-told
     refusal-requires
     enum-told-2
