@@ -1,5 +1,6 @@
 // Judges the cell on standard input and prints one line: `accepted LEVEL COLUMNS POSTS` or `refused NO PLACE`.
 // It only feeds stepwise intake, a column at a time through one buffer; everything that is decided is decided there.
+// Given any argument it judges nothing: a line about standard input would be taken for one about a file that was named.
 ghost use mathlib.Core.Path.{_≡_};
 ghost use Prim.Native.Nat.{_≤_};
 ghost use lib.ListN.{length};
@@ -87,8 +88,8 @@ fn take_input() -> Found
     }
 }
 
-fn main() {
-    let found = take_input();
+// Prints what was found, or tells on standard error why there is nothing to print or it cannot be printed.
+fn tell(found: Found) {
     match found {
         Found::Answer(answer) => {
             if !printing::verdict(OUTPUT, answer) {
@@ -98,5 +99,17 @@ fn main() {
         Found::Unread(_) => {
             io::write_all(ERRORS, b"intake: standard input cannot be read\n");
         }
+    }
+}
+
+fn main() {
+    // the program's own name is counted too
+    if os::arg_count() > 1 {
+        io::write_all(
+            ERRORS,
+            b"intake: it takes no arguments; the cell comes on standard input\n",
+        );
+    } else {
+        tell(take_input());
     }
 }
