@@ -9,10 +9,10 @@
  * threads at once, nor read while it is edited. Bytes may stand at any address; `items` is aligned as int64_t is. A call needs
  * less than 16 KB of stack. The header is for C99 and C++; of the C library the archive needs memset alone.
  *
- * ANSWERS. A call answers a dted_answer. dted_number says whether it was refused: DTED_OK where not, else why, and dted_place where.
- * The other functions below take out what an accepted answer holds: each says of which calls it takes an answer. Given any
- * other answer, a refusal among them, they give 0, or DTED_VOID for a height; where DTED_CHECK is defined before this header is read,
- * they stop the program instead, by assert.
+ * ANSWERS. Every call answers a dted_answer. Ask dted_number first: it is DTED_OK, or it says why the call was refused; then
+ * dted_place says where. Of an answer that is DTED_OK, the functions at the end of this header take out what it holds; each says to
+ * which calls it belongs. Used on any other answer, such as a refusal, they return 0, or DTED_VOID for a height. To find such
+ * uses, define DTED_CHECK before this header is read: then they stop the program, by assert.
  */
 #ifndef DTED_H
 #define DTED_H
@@ -100,40 +100,44 @@ enum {
 
 /* ---- calls on a cell ---- */
 
-/* Judges a whole cell. Order: 1, 2, then column after column from the west 3, 4, 5, 6, then 7. Answers level, columns and
- * posts to a column. */
+/* `Order` gives the numbers of the refusals that a call looks for, in turn: the first that applies is answered. */
+
+/* Judges a whole cell. Order: 1, 2, then column after column from the west 3, 4, 5, 6, then 7. The answer holds level, columns
+ * and posts to a column. */
 DTED_MUST_USE dted_answer dted_intake(const uint8_t *cell, size_t length);
 
-/* The description of a cell, from its headers alone. Order: 1, 2. Fills all of `items`, or none where it is refused. Answers
- * 0. */
+/* The description of a cell, from its headers alone. Order: 1, 2. Fills all of `items`, or none where it is refused. The answer
+ * holds nothing. */
 DTED_MUST_USE dted_answer dted_describe(const uint8_t *cell, size_t length, int64_t items[DTED_ITEMS]);
 
 /* The height of one post; column 0 is the western one, post 0 the southern one. Order: 1, 2, 8, then 3, 4, 5, 6 for that
- * column alone. Answers the height, or DTED_VOID. */
+ * column alone. The answer holds the height, or DTED_VOID. */
 DTED_MUST_USE dted_answer dted_post(const uint8_t *cell, size_t length, uint64_t column, uint64_t post);
 
 /* The post nearest a position, in tenths of arc-seconds, north and east positive, edges included; of two equally near the
- * western or southern one. 6480000 and -6480000 are one meridian. Order as for dted_post. Answers column, post and height. */
+ * western or southern one. 6480000 and -6480000 are one meridian. Order as for dted_post. The answer holds column, post and
+ * height. */
 DTED_MUST_USE dted_answer dted_position(const uint8_t *cell, size_t length, int64_t latitude, int64_t longitude);
 
 /* Makes one post this height, or DTED_VOID. Order as for dted_post, then 11. It writes the two bytes of the post and the four
- * of its column's checksum, and nothing else. Answers 0. */
+ * of its column's checksum, and nothing else. The answer holds nothing. */
 DTED_MUST_USE dted_answer dted_edit(uint8_t *cell, size_t length, uint64_t column, uint64_t post, int64_t height);
 
 /* ---- writers ---- */
 
-/* The columns of a cell, and the posts to a column, from its level and origin latitude. Order: 9 (item 1, then 2). Answers as
- * dted_intake does. dted_cell_length makes a length of the answer. */
+/* The columns of a cell, and the posts to a column, from its level and origin latitude. Order: 9 (item 1, then 2). The
+ * answer holds what dted_intake's does; dted_cell_length makes a length of it. */
 DTED_MUST_USE dted_answer dted_grid(uint64_t level, int64_t latitude);
 
 /* Writes the cell of `items` and of a grid at the front of `out`; bytes past the cell stay. The grid is 16-bit two's complement
  * heights, high byte first, column after column from the west and each from the south: `bytes` is its length in bytes. Order: 9
- * (lowest item), 10 (also where `bytes` is odd), 11 (lowest index), 12. Answers 0; the cell's length is that of dted_grid's answer
- * for its level and latitude. */
+ * (lowest item), 10 (also where `bytes` is odd), 11 (lowest index), 12. The answer holds nothing; the cell's length is that of
+ * dted_grid's answer for its level and latitude. */
 DTED_MUST_USE dted_answer dted_write(uint8_t *out, size_t room, const int64_t items[DTED_ITEMS], const uint8_t *grid, size_t bytes);
 
 /* Writes one column from a level, its number and its posts, voids allowed, at the front of `out`; bytes past it stay. Posts as in
- * a grid. Order: 9 (item 1), 8 (a number not below the level's columns at the equator), 10, 11, 12. Answers 0. */
+ * a grid. Order: 9 (item 1), 8 (a number not below the level's columns at the equator), 10, 11, 12. The answer
+ * holds nothing. */
 DTED_MUST_USE dted_answer dted_write_column(uint8_t *out, size_t room, uint64_t level, uint64_t number, const uint8_t *posts, size_t bytes);
 
 #ifdef __cplusplus
@@ -159,8 +163,8 @@ enum {
 };
 static inline int dted_holds(dted_answer answer, unsigned what) { return answer.bits >> 48 == what; }
 
-/* Of the functions below: whether the answer is one that they are for. */
-static inline int dted_is_for(int good) {
+/* Names that end in _ are this header's own: here, whether an answer is one that the function is for. */
+static inline int dted_is_for_(int good) {
 #ifdef DTED_CHECK
     assert(good && "an answer that does not hold what is taken out of it");
 #endif
@@ -168,19 +172,19 @@ static inline int dted_is_for(int good) {
 }
 
 /* 16 bits of an answer that holds this, from bit `at` up. */
-static inline unsigned dted_value(dted_answer answer, unsigned what, unsigned at) {
-    return dted_is_for(dted_holds(answer, what)) ? (unsigned)(answer.bits >> at & 0xFFFF) : 0;
+static inline unsigned dted_value_(dted_answer answer, unsigned what, unsigned at) {
+    return dted_is_for_(dted_holds(answer, what)) ? (unsigned)(answer.bits >> at & 0xFFFF) : 0;
 }
 
 /* Where: the place of a refusal. */
 static inline uint64_t dted_place(dted_answer answer) {
-    return dted_is_for(dted_number(answer) != DTED_OK) ? answer.bits & UINT64_C(0xFFFFFFFFFFFFFF) : 0;
+    return dted_is_for_(dted_number(answer) != DTED_OK) ? answer.bits & UINT64_C(0xFFFFFFFFFFFFFF) : 0;
 }
 
 /* Of dted_intake and dted_grid: the level, the columns, and the posts to a column. */
-static inline unsigned dted_level(dted_answer grid) { return dted_value(grid, DTED_HOLDS_GRID, 32); }
-static inline unsigned dted_columns(dted_answer grid) { return dted_value(grid, DTED_HOLDS_GRID, 16); }
-static inline unsigned dted_posts(dted_answer grid) { return dted_value(grid, DTED_HOLDS_GRID, 0); }
+static inline unsigned dted_level(dted_answer grid) { return dted_value_(grid, DTED_HOLDS_GRID, 32); }
+static inline unsigned dted_columns(dted_answer grid) { return dted_value_(grid, DTED_HOLDS_GRID, 16); }
+static inline unsigned dted_posts(dted_answer grid) { return dted_value_(grid, DTED_HOLDS_GRID, 0); }
 
 /* Of the same: the bytes of a column, and of the whole cell. */
 static inline size_t dted_column_length(dted_answer grid) {
@@ -195,14 +199,14 @@ static inline size_t dted_cell_length(dted_answer grid) {
 /* Of dted_post and dted_position: metres, or DTED_VOID. */
 static inline int dted_height(dted_answer post) {
     int word = (int)(post.bits & 0xFFFF);
-    if (!dted_is_for(dted_holds(post, DTED_HOLDS_HEIGHT) || dted_holds(post, DTED_HOLDS_POSITION)))
+    if (!dted_is_for_(dted_holds(post, DTED_HOLDS_HEIGHT) || dted_holds(post, DTED_HOLDS_POSITION)))
         return DTED_VOID;
     return word < 0x8000 ? word : word - 0x10000;
 }
 
 /* Of dted_position: the column and the number of the post. */
-static inline unsigned dted_position_column(dted_answer position) { return dted_value(position, DTED_HOLDS_POSITION, 32); }
-static inline unsigned dted_position_post(dted_answer position) { return dted_value(position, DTED_HOLDS_POSITION, 16); }
+static inline unsigned dted_position_column(dted_answer position) { return dted_value_(position, DTED_HOLDS_POSITION, 32); }
+static inline unsigned dted_position_post(dted_answer position) { return dted_value_(position, DTED_HOLDS_POSITION, 16); }
 
 /* ---- words and heights in bytes ---- */
 
