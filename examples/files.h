@@ -3,7 +3,7 @@
 #ifndef FILES_H
 #define FILES_H
 
-#include <dted.h>
+#include <dted_words.h>
 #include <errno.h>
 #include <inttypes.h>
 #include <stdio.h>
@@ -33,10 +33,10 @@ static inline uint8_t *read_file(const char *name, size_t *length) {
     return bytes;
 }
 
-/* Writes a heading, which may be empty, and the bytes as a file. */
-static inline int write_file(const char *name, const char *heading, const uint8_t *bytes, size_t length) {
+/* Writes the bytes as a file. */
+static inline int write_file(const char *name, const uint8_t *bytes, size_t length) {
     FILE *file = fopen(name, "wb");
-    int good = file && fputs(heading, file) != EOF && fwrite(bytes, 1, length, file) == length;
+    int good = file && fwrite(bytes, 1, length, file) == length;
     if (file && fclose(file) != 0)
         good = 0;
     if (!good)
@@ -44,28 +44,10 @@ static inline int write_file(const char *name, const char *heading, const uint8_
     return good ? DONE : TROUBLE;
 }
 
-/* A line on standard error for a refused answer: its number, what is wrong, and what its place counts. */
-static inline int refused(const char *what, uint64_t answer) {
-    static const struct {
-        const char *reason, *place;
-    } words[] = {
-        [DTED_OK] = {"a number that is not in this table", "place"},
-        [DTED_SHORT] = {"fewer bytes than the headers have", "length"},
-        [DTED_FIELD] = {"a header field breaks its rule", "offset"},
-        [DTED_CUT] = {"a column is not there whole", "offset"},
-        [DTED_PREAMBLE] = {"a field before a column's posts is wrong", "offset"},
-        [DTED_CHECKSUM] = {"a checksum differs", "offset"},
-        [DTED_WORD] = {"a post word is not allowed", "offset"},
-        [DTED_SURPLUS] = {"bytes stand after the last column", "cell length due"},
-        [DTED_OFF_GRID] = {"no such post", "place"},
-        [DTED_ITEM] = {"an item of the description is out of its range", "item"},
-        [DTED_GRID_LENGTH] = {"the grid's length differs", "posts due"},
-        [DTED_HEIGHT] = {"a height or void is not allowed", "index"},
-        [DTED_ROOM] = {"the output is too short", "length due"},
-    };
-    unsigned number = dted_number(answer), row = number < sizeof words / sizeof *words ? number : DTED_OK;
-    fprintf(stderr, "%s: refused %u: %s (%s %" PRIu64 ")\n", what, number, words[row].reason, words[row].place,
-            dted_place(answer));
+/* A line on standard error for a refused answer, in the words of dted_words.h. */
+static inline int refused(const char *what, dted_answer answer) {
+    char text[DTED_WORDS_ROOM];
+    fprintf(stderr, "%s: %s\n", what, dted_refusal(text, sizeof text, answer));
     return REFUSED;
 }
 

@@ -9,14 +9,10 @@
 
 #include <string.h>
 
-/* One line for each item; an item's name stands at its index. */
+/* One line for each item; its name goes by its number, one more than its index. */
 static void print_items(const int64_t *items) {
-    static const char *const names[DTED_ITEMS] = {
-        "level", "latitude", "longitude", "security", "edition", "match version", "vertical datum", "accuracy",
-        "absolute horizontal", "absolute vertical", "relative horizontal", "relative vertical", "partial",
-    };
     for (int i = 0; i < DTED_ITEMS; i++) {
-        printf("  %-20s ", names[i]);
+        printf("  %-28s  ", dted_item_name((uint64_t)i + 1));
         if (i == DTED_SECURITY || i == DTED_MATCH_VERSION)
             printf("%c\n", (int)items[i]);
         else if (i == DTED_DATUM)
@@ -30,7 +26,7 @@ static void print_items(const int64_t *items) {
 
 /* One post, as column, number and height. */
 static int print_post(const uint8_t *cell, size_t length, uint64_t column, uint64_t post) {
-    uint64_t answer = dted_post(cell, length, column, post);
+    dted_answer answer = dted_post(cell, length, column, post);
     if (dted_number(answer) != DTED_OK)
         return refused("post", answer);
     printf("  column %4" PRIu64 ", post %4" PRIu64 ": ", column, post);
@@ -44,7 +40,7 @@ static int print_post(const uint8_t *cell, size_t length, uint64_t column, uint6
 /* The post nearest the middle of the cell, found by its position in tenths of arc-seconds. */
 static int print_middle(const uint8_t *cell, size_t length, const int64_t *items) {
     int64_t latitude = items[DTED_LATITUDE] * DTED_DEGREE + DTED_DEGREE / 2, longitude = items[DTED_LONGITUDE] * DTED_DEGREE + DTED_DEGREE / 2;
-    uint64_t answer = dted_position(cell, length, latitude, longitude);
+    dted_answer answer = dted_position(cell, length, latitude, longitude);
     if (dted_number(answer) != DTED_OK)
         return refused("position", answer);
     return print_post(cell, length, dted_position_column(answer), dted_position_post(answer));
@@ -53,7 +49,7 @@ static int print_middle(const uint8_t *cell, size_t length, const int64_t *items
 /* Judges the cell, and prints its description, its four corners and the post in its middle. */
 static int judge(const char *name, const uint8_t *cell, size_t length) {
     int64_t items[DTED_ITEMS];
-    uint64_t answer = dted_intake(cell, length);
+    dted_answer answer = dted_intake(cell, length);
     if (dted_number(answer) != DTED_OK)
         return refused(name, answer);
     uint64_t east = dted_columns(answer) - 1, north = dted_posts(answer) - 1;
@@ -76,12 +72,12 @@ static int correct(uint8_t *cell, size_t length, char **arguments) {
         return TROUBLE;
     if (strcmp(arguments[2], "void") != 0 && !is_number(arguments[2], &height))
         return TROUBLE;
-    uint64_t answer = dted_edit(cell, length, (uint64_t)column, (uint64_t)post, height);
+    dted_answer answer = dted_edit(cell, length, (uint64_t)column, (uint64_t)post, height);
     if (dted_number(answer) != DTED_OK)
         return refused("correction", answer);
     printf("corrected:\n");
     int status = print_post(cell, length, (uint64_t)column, (uint64_t)post);
-    return status == DONE ? write_file(arguments[3], "", cell, length) : status;
+    return status == DONE ? write_file(arguments[3], cell, length) : status;
 }
 
 int main(int count, char **arguments) {

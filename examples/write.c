@@ -49,7 +49,7 @@ static int64_t formula(int64_t x, int64_t y) {
 }
 
 /* The grid that dted_write takes: two bytes for each post, column after column from the west and each from the south. */
-static uint8_t *make_grid(uint64_t grid, size_t *bytes) {
+static uint8_t *make_grid(dted_answer grid, size_t *bytes) {
     size_t columns = dted_columns(grid), posts = dted_posts(grid);
     *bytes = 2 * columns * posts;
     uint8_t *heights = malloc(*bytes), *next = heights;
@@ -63,13 +63,13 @@ static uint8_t *make_grid(uint64_t grid, size_t *bytes) {
 }
 
 /* Makes the cell and writes it as a file. */
-static int make(const char *name, const int64_t *items, uint64_t grid) {
+static int make(const char *name, const int64_t *items, dted_answer grid) {
     size_t bytes, length = dted_cell_length(grid);
     uint8_t *heights = make_grid(grid, &bytes), *cell = malloc(length);
     int status = TROUBLE;
     if (heights && cell) {
-        uint64_t answer = dted_write(cell, length, items, heights, bytes);
-        status = dted_number(answer) == DTED_OK ? write_file(name, "", cell, length) : refused(name, answer);
+        dted_answer answer = dted_write(cell, length, items, heights, bytes);
+        status = dted_number(answer) == DTED_OK ? write_file(name, cell, length) : refused(name, answer);
     } else {
         perror(name);
     }
@@ -101,6 +101,6 @@ int main(int count, char **arguments) {
     for (int i = 2; i < count; i++)
         if (!is_number(arguments[i], &items[DTED_LEVEL + i - 2]))
             return TROUBLE;
-    uint64_t grid = dted_grid((uint64_t)items[DTED_LEVEL], items[DTED_LATITUDE]);
+    dted_answer grid = dted_grid((uint64_t)items[DTED_LEVEL], items[DTED_LATITUDE]);
     return dted_number(grid) == DTED_OK ? make(arguments[1], items, grid) : refused("grid", grid);
 }

@@ -1,0 +1,157 @@
+"""dted check: its lines against the intake program's, every header field by name, and files of all kinds."""
+import os
+import re
+import subprocess
+import threading
+
+from running import ROOT, filled, fresh, run, same, second_writer, stored, told
+from words import scope_fields
+
+GOOD = "accepted, level 0, 21 columns of 121 posts"
+# the words of every number that a file can cause, the first cell that causes it, and where it is
+LINES = (("empty.dt0", "refused 1: fewer bytes than the headers have (length 0)"),
+         ("edition_00.dt0", "refused 2: a header field breaks its rule (offset 167: DSI 88-89, edition)"),
+         ("one_short.dt0", "refused 3: a column is not there whole (offset 8508), column 20"),
+         ("renumbered_column.dt0", "refused 4: a preamble field is wrong (offset 3683), column 1"),
+         ("wrong_first_checksum.dt0", "refused 5: a checksum differs (offset 3678), column 0"),
+         ("negative_zero.dt0", "refused 6: a post word is not allowed (offset 3954), column 2, post 5"),
+         ("void_in_complete.dt0", "refused 6: a post word is not allowed (offset 8756), column 20, post 120"),
+         ("one_long.dt0", "refused 7: bytes stand after the last column (length due 8762)"),
+         ("north_89.dt0", GOOD))
+
+
+def bare(line):
+    """A line of check as the intake program has it."""
+    good = re.fullmatch(r"accepted, level (\d+), (\d+) columns of (\d+) posts", line)
+    bad = re.fullmatch(r"refused (\d+): .*\((?:offset|length|length due) (\d+)(?:: .*)?\)(?:, column .*)?", line)
+    return " ".join(("accepted", *good.groups())) if good else " ".join(("refused", *bad.groups())) if bad else line
+
+
+def stored_cells(intake):
+    """One line to each stored cell, which says what the intake program says."""
+    cells = sorted((ROOT / "cells").glob("*.dt?"))
+    done = run("check", *cells)
+    lines = done.stdout.decode().splitlines()
+    same("lines and cells", len(cells), len(lines))
+    for cell, line in zip(cells, lines):
+        with open(cell, "rb") as file:
+            theirs = subprocess.run(intake, stdin=file, stdout=subprocess.PIPE).stdout.decode().strip()
+        name, _, verdict = line.partition(": ")
+        same(cell.name, (str(cell), theirs), (name, bare(verdict)))
+    same("status of all", (b"", 1), (done.stderr, done.returncode))
+
+
+def fields(folder):
+    """Each header field broken by itself is named."""
+    good = stored("north_89.dt0")[0]
+    for offset, _, name in scope_fields():
+        cell = filled(folder / "field", second_writer.with_byte(good, offset, ord("?")))
+        line = run("check", cell).stdout.decode()
+        same(name, f"{cell}: refused 2: a header field breaks its rule (offset {offset}: {name}", line.split(",")[0])
+
+
+def columns_of_levels(folder):
+    """The column is told by the grid of the file's own level and zone."""
+    for level, size in ((0, 254), (1, 2414), (2, 7214)):
+        good = second_writer.repeated(level, 89, 7)
+        for column in (0, 1, 20):
+            at = 3428 + column * size
+            cell = filled(folder / "cell", second_writer.with_byte(good, at + 8, 0x70))
+            told(f"level {level}, a byte of column {column}", ("check", cell),
+                 f"{cell}: refused 5: a checksum differs (offset {at + size - 4}), column {column}\n", status=1)
+            wrong = filled(folder / "cell", second_writer.with_word(good, size, column, 100, 0x8000))
+            told(f"level {level}, a word of column {column}", ("check", wrong),
+                 f"{cell}: refused 6: a post word is not allowed (offset {at + 208}), column {column}, post 100\n", status=1)
+
+
+def names(folder):
+    """A line stays a line, whatever the name."""
+    data = stored("north_89.dt0")[0]
+    odd = fresh(folder, "odd")
+    for name, shown in (("two words", "two words"), ("a\nb: accepted", "a?b: accepted"), ("\x1b[2Jx\x7f\t", "?[2Jx??"), ("höhe", "höhe"),
+                        ("%s%n", "%s%n"), ("x" * 255, "x" * 255)):
+        filled(odd / name, data)
+        told(f"the name {name!r}", ("check", odd / name), f"{odd}/{shown}: {GOOD}\n")
+    filled(odd / "--year", data)
+    told("a name with a dash", ("check", "--", "--year"), f"--year: {GOOD}\n", cwd=odd)
+    told("a name behind --", ("check", "two words", "--", "--year"), f"two words: {GOOD}\n--year: {GOOD}\n", cwd=odd)
+    told("-- behind --", ("check", "--", "--"), errors="dted: --: No such file or directory\n", status=2, cwd=odd)
+    told("an empty name", ("check", ""), errors="dted: : No such file or directory\n", status=2)
+    told("a name of bytes", ("check", b"\xff\n"), errors=b"dted: \xff?: No such file or directory\n", status=2, cwd=odd)
+    told("a name too long", ("check", "n" * 100000), errors=f"dted: {'n' * 4095}: File name too long\n", status=2)
+
+
+def unreadable(folder):
+    """What cannot be read is told on standard error, and the next file follows; of several statuses the highest counts."""
+    good, bad = ROOT / "cells/north_89.dt0", ROOT / "cells/empty.dt0"
+    (folder / "loop").symlink_to("loop")
+    (folder / "nowhere").symlink_to("not there")
+    for name, why in ((folder / "not there", "No such file or directory"), (folder, "Is a directory"), (f"{good}/x", "Not a directory"),
+                      (folder / "loop", "Too many levels of symbolic links"), (folder / "nowhere", "No such file or directory"),
+                      ("/proc/self/mem", "Input/output error")):
+        told(why, ("check", name), errors=f"dted: {name}: {why}\n", status=2)
+        told(f"{why}, and more", ("check", good, name, bad), f"{good}: {GOOD}\n{bad}: {LINES[0][1]}\n", f"dted: {name}: {why}\n", 2)
+    told("a refused file first", ("check", bad, good), f"{bad}: {LINES[0][1]}\n{good}: {GOOD}\n", status=1)
+    told("a good file twice", ("check", good, good), f"{good}: {GOOD}\n" * 2)
+
+
+def in_pieces(folder, data):
+    """A named pipe that gets its bytes in two pieces."""
+    pipe = folder / "pipe"
+    os.mkfifo(pipe)
+
+    def feed():
+        with open(pipe, "wb", buffering=0) as end:
+            end.write(data[:97])
+            threading.Event().wait(0.05)
+            end.write(data[97:])
+
+    feeder = threading.Thread(target=feed, daemon=True)
+    feeder.start()
+    told("a named pipe", ("check", pipe), f"{pipe}: {GOOD}\n")
+    feeder.join(10)
+
+
+def all_kinds(folder):
+    """Files that are no plain ones, and files that never end."""
+    data = stored("north_89.dt0")[0]
+    told("/dev/null", ("check", "/dev/null"), "/dev/null: refused 1: fewer bytes than the headers have (length 0)\n", status=1)
+    first = "refused 2: a header field breaks its rule (offset 0: UHL 1-4, record name)"
+    told("/dev/zero", ("check", "/dev/zero"), f"/dev/zero: {first}\n", status=1)
+    told("standard input", ("check", "-"), f"-: {GOOD}\n", input=data)
+    told("standard input twice", ("check", "-", "-"), f"-: {GOOD}\n-: {LINES[0][1]}\n", status=1, input=data)
+    told("standard input behind --", ("check", "--", "-"), f"-: {GOOD}\n", input=data)
+    (folder / "link").symlink_to(ROOT / "cells/north_89.dt0")
+    told("a link", ("check", folder / "link"), f"{folder}/link: {GOOD}\n")
+    in_pieces(folder, data)
+    huge = filled(folder / "huge", data)
+    os.truncate(huge, 1 << 40)
+    told("a cell and a terabyte", ("check", huge), f"{huge}: refused 7: bytes stand after the last column (length due 8762)\n", status=1)
+    with open(huge, "rb") as file:
+        run("check", "-", stdin=file)
+        same("bytes read of it", 25981043, os.lseek(file.fileno(), 0, os.SEEK_CUR))
+    huge.unlink()
+
+
+def longest(folder):
+    """The longest cell, and a byte more; then a small one in the same buffer."""
+    cell, small = filled(folder / "cell", second_writer.repeated(2, 0, 7)), ROOT / "cells/north_89.dt0"
+    told("the longest cell", ("check", cell, small), f"{cell}: accepted, level 2, 3601 columns of 3601 posts\n{small}: {GOOD}\n")
+    with open(cell, "ab") as file:
+        file.write(b"\0")
+    told("a byte more", ("check", cell, small),
+         f"{cell}: refused 7: bytes stand after the last column (length due 25981042)\n{small}: {GOOD}\n", status=1)
+
+
+def test(folder, intake):
+    for name, line in LINES:
+        cell = ROOT / "cells" / name
+        told(name, ("check", cell), f"{cell}: {line}\n", status=int(line != GOOD))
+    same("numbers that a file can cause", set("1234567"), {line[8] for _, line in LINES if line != GOOD})
+    stored_cells(intake)
+    fields(folder)
+    columns_of_levels(folder)
+    names(folder)
+    unreadable(folder)
+    all_kinds(folder)
+    longest(folder)
