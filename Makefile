@@ -3,7 +3,7 @@
 # make tool: the program dted. make install, uninstall: library, headers, programs and manual pages. make dist: all of it, packed.
 # make examples: examples/. make picture: docs/relief.png. make fmt: the layout of the sources.
 # make host, fuzz: the library against a second reader and writer in C. make interop: against GDAL, which it installs; no part of
-# make check. make bench: the library measured beside plain C and others. make figures: the figures of the documents, measured anew.
+# make check. make bench: the library measured beside plain C and others. make figures: measured and put into docs/.
 .PHONY: check run fmt lib shared tool install uninstall dist examples picture host fuzz interop bench figures FORCE
 # what a failed command leaves is not taken for made
 .DELETE_ON_ERROR:
@@ -20,19 +20,20 @@ fmt:
 INTAKE_SOURCES := $(shell tools/sources intake)
 LIBRARY_SOURCES := $(shell tools/sources dted)
 PLAIN := target/staticlib/libdted.a
+PROGRAM := target/bin/intake
 
 $(PLAIN): $(LIBRARY_SOURCES)
 	@tools/prove staticlib dted
 
 # rt leaves a program as it is where its sources say the same as before
-target/bin/intake: $(INTAKE_SOURCES)
+$(PROGRAM): $(INTAKE_SOURCES)
 	@tools/prove check intake
 	@touch $@
 
 # any other cell: make run CELL=path
 CELL ?= cells/north_89.dt0
 
-run: target/bin/intake
+run: $(PROGRAM)
 	@tools/intake < $(CELL)
 
 # ---- the archive ----
@@ -112,9 +113,9 @@ CMAKEDIR := $(LIBDIR)/cmake/dted
 
 # the intake program: INTAKE=path, or the one made here; without the kit that one is taken where no source of it is newer
 ifeq ($(ARCHIVE),$(PLAIN))
-INTAKE ?= target/bin/intake
+INTAKE ?= $(PROGRAM)
 else
-INTAKE ?= $(shell [ ! -x target/bin/intake ] || [ "$$(find $(INTAKE_SOURCES) -prune -newer target/bin/intake)" ] || echo target/bin/intake)
+INTAKE ?= $(shell [ ! -x $(PROGRAM) ] || [ "$$(find $(INTAKE_SOURCES) -prune -newer $(PROGRAM))" ] || echo $(PROGRAM))
 endif
 
 # each function of the headers has the library's manual page under its own name too
@@ -123,7 +124,8 @@ FUNCTION_PAGES := $(FUNCTIONS:%=$(MANDIR)/man3/%.3)
 PAGES := $(foreach page,$(wildcard man/*.[1-9]),$(MANDIR)/man$(subst .,,$(suffix $(page)))/$(notdir $(page)))
 LIBRARIES := $(addprefix $(LIBDIR)/,libdted.a libdted.so libdted.so.$(SOVERSION) libdted.so.$(VERSION))
 FILLED := $(PKGDIR)/dted.pc $(PKGDIR)/dted-shared.pc $(CMAKEDIR)/dtedConfig.cmake $(CMAKEDIR)/dtedConfigVersion.cmake
-INSTALLED := $(BINDIR)/dted $(BINDIR)/dted-intake $(LIBRARIES) $(HEADERS:include/%=$(INCLUDEDIR)/%) $(FILLED) $(PAGES) $(FUNCTION_PAGES)
+INSTALLED := $(BINDIR)/dted $(BINDIR)/dted-intake $(LIBRARIES) $(HEADERS:include/%=$(INCLUDEDIR)/%) $(FILLED) $(PAGES) \
+	$(FUNCTION_PAGES)
 
 under_prefix = $(patsubst $(PREFIX)/%,$${prefix}/%,$(1))
 FILL = sed -e 's|@VERSION@|$(VERSION)|g' -e 's|@SOVERSION@|$(SOVERSION)|g' -e 's|@PREFIX@|$(PREFIX)|' \

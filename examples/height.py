@@ -36,7 +36,7 @@ def height(answer):
 
 
 def tenths(text):
-    """Degrees as tenths of arc-seconds. 360 stands for all that is further off, on no cell either, so that it is a 64-bit number."""
+    """Degrees as tenths of arc-seconds. 360 stands for all that is further off, on no cell either: the call takes 64 bits."""
     return round(min(max(float(text), -360), 360) * DEGREE)
 
 

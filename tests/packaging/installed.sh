@@ -23,7 +23,8 @@ run_examples() { # WHAT FOLDER
 
 # Builds the examples with CMake against the installed library.
 with_cmake() { # WHAT TARGET
-    good "$1: configured" cmake -S examples -B "$work/cmake" -DCMAKE_PREFIX_PATH="$there" -DDTED="$2" -DCMAKE_C_COMPILER="$cc" "${cross[@]}"
+    good "$1: configured" cmake -S examples -B "$work/cmake" -DCMAKE_PREFIX_PATH="$there" -DDTED="$2" \
+        -DCMAKE_C_COMPILER="$cc" "${cross[@]}"
     good "$1: built" cmake --build "$work/cmake" && run_examples "$1" "$work/cmake"
     same "$1: what it looks for" "$([ "$2" = dted::dted ] || echo "libdted.so.$soversion")" "$(needed "$work/cmake/judge")"
     rm -rf "$work/cmake"
@@ -31,7 +32,7 @@ with_cmake() { # WHAT TARGET
 
 # What CMake says of a request for a version.
 asked_for() { # VERSION
-    printf 'cmake_minimum_required(VERSION 3.13)\nproject(asks NONE)\nfind_package(dted %s REQUIRED)\n' "$1" >"$work/CMakeLists.txt"
+    printf '%s\n' 'cmake_minimum_required(VERSION 3.13)' 'project(asks NONE)' "find_package(dted $1 REQUIRED)" >"$work/CMakeLists.txt"
     rm -rf "$work/asks"
     cmake -S "$work" -B "$work/asks" -DCMAKE_PREFIX_PATH="$there"
 }
@@ -44,7 +45,8 @@ take_away() { # WHAT VARIABLE..
 }
 
 # The functions of both headers, as the compiler sees them: each has a manual page.
-functions=$(printf '#include <dted.h>\n#include <dted_words.h>\n' | "$cc" -E -P -Iinclude -x c - | grep -oE '\bdted_[a-z0-9_]+\(' | tr -d '(' | sort -u)
+functions=$(printf '#include <%s>\n' dted.h dted_words.h | "$cc" -E -P -Iinclude -x c - | grep -oE '\bdted_[a-z0-9_]+\(' |
+    tr -d '(' | sort -u)
 due=$({
     sed -e "s/@VERSION@/$version/" -e "s/@SOVERSION@/$soversion/" tests/package.files
     # shellcheck disable=SC2086
@@ -103,7 +105,8 @@ fi
 # ---- manual pages ----
 for page in man/*; do
     # the pages that they name need not be installed here
-    same "$page" '' "$(cd "$there/share/man" && mandoc -Tlint -Wstyle man?/"${page##*/}" 2>&1 | grep -v 'referenced manual not found')"
+    same "$page" '' \
+        "$(cd "$there/share/man" && mandoc -Tlint -Wstyle man?/"${page##*/}" 2>&1 | grep -v 'referenced manual not found')"
 done
 same "functions whose page is not the library's" '' "$(cd "$there/share/man/man3" && grep -LFx '.so man3/dted.3' dted_*)"
 take_away 'uninstall'

@@ -7,8 +7,8 @@ without_kit() { # FOLDER COMMAND..
     (cd "$1" && env -i PATH="$bare" "${@:2}")
 }
 mkdir "$bare"
-for tool in as awk bash cat cmp cp dirname echo env find grep gzip install ld ln make mkdir pkg-config realpath rm sed sh sha256sum tac tar uname \
-    xargs "$cc"; do
+for tool in as awk bash cat cmp cp dirname echo env find grep gzip install ld ln make mkdir pkg-config realpath rm sed sh sha256sum \
+    tac tar uname xargs "$cc"; do
     ln -s "$(type -P "$tool")" "$bare"
 done
 
@@ -25,7 +25,8 @@ flags() { # PREFIX
 good 'dist' make -s dist DIST="$dist"
 good 'dist once more' bash -c 'umask 077 && make -s dist DIST="$1"' - "$work/again"
 same 'dist once more, its difference' '' "$(diff -r "$dist" "$work/again")"
-same 'the packed files' "SHA256SUMS $packed.tar.gz dted-$version.tar.gz" "$(find "$dist" -type f -printf '%f\n' | LC_ALL=C sort | xargs)"
+same 'the packed files' "SHA256SUMS $packed.tar.gz dted-$version.tar.gz" \
+    "$(find "$dist" -type f -printf '%f\n' | LC_ALL=C sort | xargs)"
 good 'the sums of both archives' without_kit "$dist" sha256sum --quiet --check SHA256SUMS
 bad 'the kit is not there' '' without_kit "$work" bash -c 'command -v rt'
 
@@ -73,7 +74,7 @@ good 'the sources, with an archive' without_kit "$fresh" make install DESTDIR="$
 same 'the sources, with an archive, say' 1 "$(grep -cF 'dted-intake is left out' "$work/log")"
 same 'what they install' "$(grep -v '^bin/dted-intake$' <<<"$due")" "$(cd "$there" && find . ! -type d -printf '%P\n' | sort)"
 good 'the archive is the one given' cmp "$work/given.a" "$there/lib/libdted.a"
-good 'the sources, with a program too' without_kit "$fresh" make install DESTDIR="$stage" PREFIX="$prefix" ARCHIVE="$work/given.a" \
-    INTAKE="$work/second/bin/dted-intake"
+good 'the sources, with a program too' without_kit "$fresh" make install DESTDIR="$stage" PREFIX="$prefix" \
+    ARCHIVE="$work/given.a" INTAKE="$work/second/bin/dted-intake"
 good 'the program is the one given' cmp "$work/second/bin/dted-intake" "$there/bin/dted-intake"
 rm -rf "$stage"
