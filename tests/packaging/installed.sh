@@ -102,6 +102,17 @@ if [ "$(uname -m)" = x86_64 ]; then
     same 'height.py, no file' ', status 2' "$(height cells/none.dt0 46.5 7.5)"
 fi
 
+# ---- the lines of docs/MANY.md that need one machine, as the page has them ----
+if [ "$(uname -m)" = x86_64 ]; then
+    mkdir "$work/many" && cp -r cells "$work/many"
+    sed -n '/^```sh$/,/^```$/{/^```/!p}' docs/MANY.md | grep -v parallel >"$work/many/script"
+    (cd "$work/many" && PATH=$there/bin:$PATH bash -e <(sed 's/>lines 2>unread$/& || [ $? = 123 ]/' script))
+    same 'docs/MANY.md, the status where refusals are no failure' 0 $?
+    same 'docs/MANY.md, the lines' "$(find cells -name '*.dt?' | wc -l)" "$(grep -c . "$work/many/lines")"
+    same 'docs/MANY.md, the refused cells' "$(grep -l '^refused' cells/*.line | sed 's/\.line$//')" \
+        "$(sed 's/\.dt.$//' "$work/many/refused" | sort)"
+fi
+
 # ---- manual pages ----
 for page in man/*; do
     # the pages that they name need not be installed here

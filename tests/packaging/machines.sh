@@ -24,6 +24,7 @@ if [ "$ARCHIVE" = target/staticlib/libdted.a ]; then
     same 'what is made once more' "$made" "$(stat -c %y "$other" target/native/module.ll)"
     lib_for aarch64 MACHINE=aarch64
     same 'its machine' AArch64 "$(machine_of "$other")"
+    same 'what the compiler says of it' '' "$(tools/native "$work/aarch64.a" aarch64 2>&1)"
     lib_for aarch64-armv8.2-a MACHINE=aarch64 CPU=armv8.2-a
     same 'its machine, with a processor' AArch64 "$(machine_of "$other")"
     refuses_words nonsense "unknown target CPU 'nonsense'" CPU=nonsense

@@ -1,7 +1,8 @@
 # What make asks the kit for and when, in the unpacked sources with a stand-in for rt. A part of tests/package.
 tree=$work/empty/dted-$version
 
-# A stand-in that notes what it is asked, prints as rt does, and makes the archive or the program. FAILING makes its run fail.
+# A stand-in that notes what it is asked, prints as rt does, and makes the archive or the program: with PROVED=yes no program, since
+# rt leaves what it has proved before, and with FAILING=yes it fails after that.
 mkdir -p "$work/bin"
 cat >"$work/bin/rt" <<END
 #!/bin/sh
@@ -9,7 +10,7 @@ echo "\$*" >>"$work/asked"
 echo 'fn octets::sums::sum: proved'
 echo 'rt: octets proved (1 s)'
 mkdir -p target/staticlib target/bin
-case \$1 in
+case \$1\${PROVED:-} in
 staticlib) cp "$work/given.a" target/staticlib/libdted.a ;;
 check) cp "$work/second/bin/dted-intake" target/bin/intake ;;
 esac
@@ -58,6 +59,9 @@ same 'run, what is kept' 2 "$(wc -l <"$tree/target/log/rt-check-intake.log")"
 asks 'run once more' '' make -s run
 edit crates/printing/src/lib.rt
 asks 'run after an edit' 'check intake' make -s run
+edit crates/printing/src/lib.rt
+asks 'run after an edit that changes nothing' 'check intake' env PROVED=yes make -s run
+asks 'run after that' '' make -s run
 edit crates/octets/src/lib.rt
 asks 'install after an edit' 'staticlib dted,check intake' make install DESTDIR="$stage" PREFIX="$prefix"
 
@@ -75,7 +79,7 @@ same 'the status of rt' 3 "$(in_tree env FAILING=yes tools/prove check intake 2>
 linked() {
     stat -c %y "$tree/target/tool/dted" "$tree/target/shared/libdted.so.$version"
 }
-echo 'int dted_none;' | "$cc" -c -x c - -o "$work/none.o"
+echo 'int dted_none, none;' | "$cc" -c -x c - -o "$work/none.o"
 cp "$work/given.a" "$work/other.a" && "${nm%nm}ar" rc "$work/other.a" "$work/none.o" && touch -d 2000-01-01 "$work/other.a"
 good 'the tool' in_tree make tool shared ARCHIVE="$work/given.a"
 before=$(linked)
@@ -84,7 +88,7 @@ good 'the tool once more' in_tree make tool shared ARCHIVE="$work/given.a"
 same 'the same archive is not linked again' "$before" "$(linked)"
 good 'the tool, of another archive' in_tree make tool shared ARCHIVE="$work/other.a"
 good 'an older archive is linked' [ "$before" != "$(linked)" ]
-same 'its name is in the shared library' dted_none "$(names "$tree/target/shared/libdted.so" -D --defined-only | grep none)"
+same 'of its names one is seen from outside' dted_none "$(names "$tree/target/shared/libdted.so" -D --defined-only | grep none)"
 edit crates/octets/src/lib.rt
 good 'install of that archive' in_tree make install DESTDIR="$stage" ARCHIVE="$work/other.a"
 same 'a program that is older than its sources' 1 "$(grep -cF 'dted-intake is left out' "$work/log")"

@@ -14,7 +14,8 @@ done
 
 # Unpacks an archive into an empty folder, and gives the folder in it.
 unpack() { # NAME
-    rm -rf "$empty" && mkdir "$empty" && without_kit "$empty" tar -xzf "$dist/$1.tar.gz" && fresh=$empty/$1
+    fresh=$empty/$1
+    rm -rf "$empty" && mkdir -p "$fresh" && without_kit "$empty" tar -xzf "$dist/$1.tar.gz"
 }
 
 # The words that pkg-config has for an install that was not staged.
