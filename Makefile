@@ -159,7 +159,7 @@ DIST ?= dist
 
 dist:
 	@rm -rf target/dist
-	@$(MAKE) install DESTDIR=target/dist/ PREFIX=@PREFIX@
+	@$(MAKE) -s install DESTDIR=target/dist/ PREFIX=@PREFIX@
 	@tools/dist target/dist $(firstword $(subst -, ,$(shell $(CC) -dumpmachine))) $(DIST)
 
 # ---- tests of the C library ----

@@ -4,7 +4,7 @@ packed=dted-$version-x86_64-linux
 
 # Runs a command in a folder with these tools on the PATH and no other.
 without_kit() { # FOLDER COMMAND..
-    (cd "$1" && env -i PATH="$bare" "${@:2}")
+    (cd "$1" && env -i PATH="$bare" CC="$cc" "${@:2}")
 }
 mkdir "$bare"
 for tool in as awk bash cat cmp cp dirname echo env find grep gzip install ld ln make mkdir pkg-config realpath rm sed sh sha256sum \
