@@ -1,32 +1,108 @@
 # make check: the whole test command. make run: the intake program on a shipped cell.
-# make lib: the C library. make install, uninstall: library, header, program and manual pages. make examples: examples/.
-# make interop: the library against GDAL, which it installs; no part of make check.
-# make host, fuzz: the library against a second reader and writer in C. make bench: the library measured beside plain C and others.
-.PHONY: check run fmt lib install uninstall examples picture host fuzz interop bench
+# make lib: the C library; with CPU= or MACHINE= for another processor or machine. make shared: as a shared library.
+# make tool: the program dted. make install, uninstall: library, headers, programs and manual pages. make dist: all of it, packed.
+# make examples: examples/. make picture: docs/relief.png. make fmt: the layout of the sources.
+# make host, fuzz: the library against a second reader and writer in C. make interop: against GDAL, which it installs; no part of
+# make check. make bench: the library measured beside plain C and others. make figures: measured and put into docs/.
+.PHONY: check run fmt lib shared tool install uninstall dist examples picture host fuzz interop bench figures FORCE
+# what a failed command leaves is not taken for made
+.DELETE_ON_ERROR:
 
 check:
 	@tools/check
 
-# any other cell: make run CELL=path
-CELL ?= cells/north_89.dt0
-
-run: target/bin/intake
-	@tools/intake < $(CELL)
-
-target/bin/intake:
-	@rt check intake >&2
-
 fmt:
 	@rt fmt
 
-# ---- the C library ----
+# ---- what the kit proves and compiles ----
 
-ARCHIVE ?= target/staticlib/libdted.a
+# all that each is proved from, folders too, so that an edited, a new and a removed file are seen
+INTAKE_SOURCES := $(shell tools/sources intake)
+LIBRARY_SOURCES := $(shell tools/sources dted)
+PLAIN := target/staticlib/libdted.a
+PROGRAM := target/bin/intake
 
-lib target/staticlib/libdted.a:
-	@rt staticlib dted
+$(PLAIN): $(LIBRARY_SOURCES)
+	@tools/prove staticlib dted
 
+# rt leaves a program as it is where its sources say the same as before
+$(PROGRAM): $(INTAKE_SOURCES)
+	@tools/prove check intake
+	@touch $@
+
+# any other cell: make run CELL=path
+CELL ?= cells/north_89.dt0
+
+run: $(PROGRAM)
+	@tools/intake < $(CELL)
+
+# ---- the archive ----
+
+# words of the command line alone: some systems export such names
+CPU :=
+MACHINE :=
+ifeq ($(MACHINE)$(CPU),)
+lib: $(PLAIN)
+else
+OTHER := target/lib/libdted$(MACHINE:%=-%)$(CPU:%=-%).a
+lib: $(OTHER)
+$(OTHER): $(PLAIN)
+	tools/native $@ $(or $(MACHINE),x86_64) $(CPU)
+endif
+
+# another archive is taken as it is, without the kit: ARCHIVE=path
+ARCHIVE ?= $(PLAIN)
+
+# what programs are linked with: as new as its bytes, so that another archive is seen, and the same one made again is not
+LINKED := target/link/libdted.a
+$(LINKED): $(ARCHIVE) FORCE
+	@cmp -s $< $@ || install -D -m 644 $< $@
+
+# ---- what a C compiler makes of it ----
+
+# the archive is for x86-64 alone: elsewhere a cross compiler makes the programs, and tools/x86-64 runs them
+ifneq ($(shell uname -m),x86_64)
+CC = x86_64-linux-gnu-gcc
+endif
+CFLAGS ?= -O2
+STRICT := -std=c99 -Wall -Wextra -Wpedantic -Werror
+HEADERS := $(wildcard include/*.h)
 VERSION := $(shell cat VERSION)
+
+# while the first number is 0 a changed call raises the second one, so that a program needs both to be its own
+SOVERSION := $(basename $(VERSION))
+SHARED := target/shared/libdted.so.$(VERSION)
+
+shared: $(SHARED)
+
+# no name but the calls is seen from outside, and none but the C library's is looked for there
+$(SHARED): $(LINKED) VERSION
+	@mkdir -p $(@D)
+	@rm -f target/shared/libdted.so*
+	@echo '{ global: dted_*; local: *; };' >target/shared/names
+	$(CC) -shared -nostartfiles -Wl,-soname,libdted.so.$(SOVERSION) -Wl,--version-script,target/shared/names -Wl,-z,defs \
+		-Wl,--whole-archive $(LINKED) -Wl,--no-whole-archive -o $@
+	@ln -s libdted.so.$(VERSION) target/shared/libdted.so.$(SOVERSION)
+	@ln -s libdted.so.$(SOVERSION) target/shared/libdted.so
+
+tool: target/tool/dted
+
+target/tool/dted: $(wildcard tool/*) $(HEADERS) $(LINKED)
+	@mkdir -p $(@D)
+	$(CC) $(STRICT) $(CFLAGS) -Iinclude $(filter %.c,$^) $(LINKED) -lm -o $@
+
+examples: target/examples/judge target/examples/write
+
+target/examples/%: examples/%.c examples/files.h $(HEADERS) $(LINKED)
+	@mkdir -p $(@D)
+	$(CC) $(STRICT) $(CFLAGS) -Iinclude $< $(LINKED) -o $@
+
+picture: target/tool/dted
+	tools/x86-64 $< relief cells/terrain.dt0 target/relief.pgm 2
+	tools/png 4 <target/relief.pgm >docs/relief.png
+
+# ---- installed ----
+
 PREFIX ?= /usr/local
 BINDIR ?= $(PREFIX)/bin
 LIBDIR ?= $(PREFIX)/lib
@@ -35,53 +111,56 @@ MANDIR ?= $(PREFIX)/share/man
 PKGDIR := $(LIBDIR)/pkgconfig
 CMAKEDIR := $(LIBDIR)/cmake/dted
 
-# each call has the library's manual page under its own name too
-CALLS := intake describe post position edit grid write write_column
-CALL_PAGES := $(CALLS:%=$(MANDIR)/man3/dted_%.3)
-INSTALLED := $(BINDIR)/dted-intake $(LIBDIR)/libdted.a $(INCLUDEDIR)/dted.h $(PKGDIR)/dted.pc $(CMAKEDIR)/dtedConfig.cmake \
-	$(CMAKEDIR)/dtedConfigVersion.cmake $(MANDIR)/man1/dted-intake.1 $(MANDIR)/man3/dted.3 $(MANDIR)/man5/dted.5 $(CALL_PAGES)
+# the intake program: INTAKE=path, or the one made here; without the kit that one is taken where no source of it is newer
+ifeq ($(ARCHIVE),$(PLAIN))
+INTAKE ?= $(PROGRAM)
+else
+INTAKE ?= $(shell [ ! -x $(PROGRAM) ] || [ "$$(find $(INTAKE_SOURCES) -prune -newer $(PROGRAM))" ] || echo $(PROGRAM))
+endif
+
+# each function of the headers has the library's manual page under its own name too
+FUNCTIONS := ${shell sed -nE 's/^[A-Za-z][A-Za-z0-9_ *]*[ *](dted_[a-z0-9_]+)\(.*/\1/p' $(HEADERS)}
+FUNCTION_PAGES := $(FUNCTIONS:%=$(MANDIR)/man3/%.3)
+PAGES := $(foreach page,$(wildcard man/*.[1-9]),$(MANDIR)/man$(subst .,,$(suffix $(page)))/$(notdir $(page)))
+LIBRARIES := $(addprefix $(LIBDIR)/,libdted.a libdted.so libdted.so.$(SOVERSION) libdted.so.$(VERSION))
+FILLED := $(PKGDIR)/dted.pc $(PKGDIR)/dted-shared.pc $(CMAKEDIR)/dtedConfig.cmake $(CMAKEDIR)/dtedConfigVersion.cmake
+INSTALLED := $(BINDIR)/dted $(BINDIR)/dted-intake $(LIBRARIES) $(HEADERS:include/%=$(INCLUDEDIR)/%) $(FILLED) $(PAGES) \
+	$(FUNCTION_PAGES)
 
 under_prefix = $(patsubst $(PREFIX)/%,$${prefix}/%,$(1))
-FILL = sed -e 's|@VERSION@|$(VERSION)|' -e 's|@PREFIX@|$(PREFIX)|' -e 's|@LIBDIR@|$(call under_prefix,$(LIBDIR))|' \
-	-e 's|@INCLUDEDIR@|$(call under_prefix,$(INCLUDEDIR))|' \
+FILL = sed -e 's|@VERSION@|$(VERSION)|g' -e 's|@SOVERSION@|$(SOVERSION)|g' -e 's|@PREFIX@|$(PREFIX)|' \
+	-e 's|@LIBDIR@|$(call under_prefix,$(LIBDIR))|' -e 's|@INCLUDEDIR@|$(call under_prefix,$(INCLUDEDIR))|' \
 	-e "s|@INCLUDE_FROM_HERE@|$$(realpath -m --relative-to=$(CMAKEDIR) $(INCLUDEDIR))|"
 PUT = install -m 644 /dev/stdin
 
-install: $(ARCHIVE) target/bin/intake
+install: $(ARCHIVE) $(INTAKE) shared tool
 	install -d $(sort $(dir $(INSTALLED:%=$(DESTDIR)%)))
-	install -m 755 target/bin/intake $(DESTDIR)$(BINDIR)/dted-intake
+	install -m 755 target/tool/dted $(DESTDIR)$(BINDIR)/dted
+	$(if $(INTAKE),install -m 755 $(INTAKE) $(DESTDIR)$(BINDIR)/dted-intake,@echo 'dted-intake is left out: INTAKE=path gives it')
 	install -m 644 $(ARCHIVE) $(DESTDIR)$(LIBDIR)/libdted.a
-	install -m 644 include/dted.h $(DESTDIR)$(INCLUDEDIR)
-	$(FILL) dted.pc.in | $(PUT) $(DESTDIR)$(PKGDIR)/dted.pc
+	install -m 644 $(SHARED) $(DESTDIR)$(LIBDIR)
+	cp -P target/shared/libdted.so target/shared/libdted.so.$(SOVERSION) $(DESTDIR)$(LIBDIR)
+	install -m 644 $(HEADERS) $(DESTDIR)$(INCLUDEDIR)
+	$(FILL) -e 's|@NAME@|dted|' -e 's|@LIBRARY@|:libdted.a|' dted.pc.in | $(PUT) $(DESTDIR)$(PKGDIR)/dted.pc
+	$(FILL) -e 's|@NAME@|dted-shared|' -e 's|@LIBRARY@|dted|' dted.pc.in | $(PUT) $(DESTDIR)$(PKGDIR)/dted-shared.pc
 	$(FILL) cmake/dtedConfig.cmake.in | $(PUT) $(DESTDIR)$(CMAKEDIR)/dtedConfig.cmake
 	$(FILL) cmake/dtedConfigVersion.cmake.in | $(PUT) $(DESTDIR)$(CMAKEDIR)/dtedConfigVersion.cmake
-	install -m 644 man/dted-intake.1 $(DESTDIR)$(MANDIR)/man1
-	install -m 644 man/dted.3 $(DESTDIR)$(MANDIR)/man3
-	install -m 644 man/dted.5 $(DESTDIR)$(MANDIR)/man5
-	for page in $(CALL_PAGES:%=$(DESTDIR)%); do echo '.so man3/dted.3' | $(PUT) $$page || exit; done
+	for page in $(PAGES); do $(FILL) man/$${page##*/} | $(PUT) $(DESTDIR)$$page || exit; done
+	for page in $(FUNCTION_PAGES); do echo '.so man3/dted.3' | $(PUT) $(DESTDIR)$$page || exit; done
 
 uninstall:
 	rm -f $(INSTALLED:%=$(DESTDIR)%)
 	[ ! -d $(DESTDIR)$(CMAKEDIR) ] || rmdir $(DESTDIR)$(CMAKEDIR)
 
-# ---- the examples ----
+# ---- packed ----
 
-# the archive is for x86-64 alone: elsewhere a cross compiler makes the examples, and tools/x86-64 runs them
-ifneq ($(shell uname -m),x86_64)
-CC = x86_64-linux-gnu-gcc
-endif
-CFLAGS ?= -O2
-STRICT := -std=c99 -Wall -Wextra -Wpedantic -Werror
+# the sources, and what is installed from without the kit; DIST=folder takes them elsewhere
+DIST ?= dist
 
-examples: target/examples/judge target/examples/relief target/examples/write
-
-target/examples/%: examples/%.c examples/files.h include/dted.h $(ARCHIVE)
-	@mkdir -p $(@D)
-	$(CC) $(STRICT) $(CFLAGS) -Iinclude $< $(ARCHIVE) -lm -o $@
-
-picture: target/examples/relief
-	tools/x86-64 $< cells/terrain.dt0 target/relief.pgm 2
-	tools/png 4 <target/relief.pgm >docs/relief.png
+dist:
+	@rm -rf target/dist
+	@$(MAKE) -s install DESTDIR=target/dist/ PREFIX=@PREFIX@
+	@tools/dist target/dist $(firstword $(subst -, ,$(shell $(CC) -dumpmachine))) $(DIST)
 
 # ---- tests of the C library ----
 
@@ -110,13 +189,17 @@ BENCH_FLAGS := -std=c11 -Wall -Wextra -Wpedantic -Werror -O3 -Iinclude
 BENCH_PARTS := bench report plain limit same gdal_calls
 BENCH_OBJECTS = $(BENCH_PARTS:%=target/bench/%.o) $(if $(SECOND_CC),target/bench/second.o)
 ifeq ($(shell uname -m),x86_64)
-BENCH_ARCHIVE = $(ARCHIVE)
+BENCH_ARCHIVE = $(LINKED)
 else
 BENCH_ARCHIVE = target/native/libdted.a
 endif
 
 bench: target/bench/bench
-	bench/run $<
+	@bench/run $<
+
+# bench/last.txt, docs/figures.svg and the tables of docs/FIGURES.md
+figures: target/bench/bench
+	@bench/figures $<
 
 target/bench/bench: $(BENCH_OBJECTS) $(BENCH_ARCHIVE)
 	$(BENCH_CC) $^ $(GDAL_LIBS) -o $@
@@ -130,5 +213,5 @@ target/bench/second.o: bench/plain.c bench/plain.h include/dted.h
 	@mkdir -p $(@D)
 	$(SECOND_CC) $(BENCH_FLAGS) $(foreach call,intake post edit write compiler,-Dplain_$(call)=second_$(call)) -c $< -o $@
 
-target/native/libdted.a: $(ARCHIVE)
+target/native/libdted.a: $(PLAIN)
 	tools/native $@

@@ -1,0 +1,68 @@
+#!/usr/bin/env python3
+"""height.py - judges a cell by the shared library, and prints its height at a position.
+
+    height.py LIBRARY CELL LATITUDE LONGITUDE       decimal degrees, north and east positive
+
+Prints metres, or `void`, or `refused NUMBER PLACE`. Exit status: 0 done, 1 refused, 2 a file or an argument is wrong.
+"""
+import ctypes
+import sys
+
+# as dted.h has them
+OK, VOID, DEGREE, LONGEST_CELL = 0, -32767, 36000, 25981042
+
+
+def load(path):
+    """The calls that are used. An answer, a struct of one 64-bit number, comes back as the number itself."""
+    library = ctypes.CDLL(path)
+    cell = [ctypes.c_char_p, ctypes.c_size_t]
+    library.dted_intake.argtypes = cell
+    library.dted_position.argtypes = cell + [ctypes.c_int64, ctypes.c_int64]
+    library.dted_intake.restype = library.dted_position.restype = ctypes.c_uint64
+    return library
+
+
+def number(answer):
+    return answer >> 56
+
+
+def place(answer):
+    return answer & (1 << 56) - 1
+
+
+def height(answer):
+    """The low 16 bits, in two's complement; other values stand above them."""
+    return ctypes.c_int16(answer & 0xFFFF).value
+
+
+def tenths(text):
+    """Degrees as tenths of arc-seconds. 360 stands for all that is further off, on no cell either: the call takes 64 bits."""
+    return round(min(max(float(text), -360), 360) * DEGREE)
+
+
+def look_up(library, cell, latitude, longitude):
+    """Judges every column, then reads the post nearest the position: the answer of the first call that refuses, or of the last."""
+    answer = library.dted_intake(cell, len(cell))
+    return answer if number(answer) != OK else library.dted_position(cell, len(cell), latitude, longitude)
+
+
+def main():
+    if len(sys.argv) != 5:
+        print("usage: height.py LIBRARY CELL LATITUDE LONGITUDE", file=sys.stderr)
+        return 2
+    try:
+        library, latitude, longitude = load(sys.argv[1]), tenths(sys.argv[3]), tenths(sys.argv[4])
+        with open(sys.argv[2], "rb") as file:
+            cell = file.read(LONGEST_CELL + 1)  # a byte more, so that a file that goes on is refused
+    except (OSError, ValueError) as trouble:
+        print(f"height.py: {trouble}", file=sys.stderr)
+        return 2
+    answer = look_up(library, cell, latitude, longitude)
+    if number(answer) != OK:
+        print("refused", number(answer), place(answer))
+        return 1
+    print("void" if height(answer) == VOID else height(answer))
+    return 0
+
+
+sys.exit(main())

@@ -1,0 +1,130 @@
+# The library, installed into a stage and built against. A part of tests/package.
+
+# The libraries of ours that a program looks for when it starts.
+needed() { # PROGRAM
+    readelf -dW "$1" | sed -n 's/.*(NEEDED).*\[\(libdted.*\)\]/\1/p'
+}
+
+# Runs built examples on shipped cells.
+run_examples() { # WHAT FOLDER
+    local out
+    out=$(tools/x86-64 "$2/judge" cells/terrain.dt0 60 60 1234 "$work/corrected.dt0" 2>&1)
+    same "$1: judge, its status" 0 $?
+    same "$1: judge, its first line" 'cells/terrain.dt0: level 0, 121 columns of 121 posts' "$(head -n 1 <<<"$out")"
+    same "$1: judge, its last line" '  column   60, post   60: 1234 m' "$(tail -n 1 <<<"$out")"
+    same "$1: the corrected cell" 'accepted 0 121 121' "$(tools/x86-64 "$there/bin/dted-intake" <"$work/corrected.dt0")"
+    out=$(tools/x86-64 "$2/judge" cells/wrong_first_checksum.dt0 2>&1)
+    same "$1: judge of a wrong checksum, its status" 1 $?
+    same "$1: judge of a wrong checksum" 'cells/wrong_first_checksum.dt0: refused 5: a checksum differs (offset 3678)' "$out"
+    tools/x86-64 "$2/write" "$work/written.dt0"
+    good "$1: the written cell is the shipped one" cmp "$work/written.dt0" cells/terrain.dt0
+    rm -f "$work/corrected.dt0" "$work/written.dt0"
+}
+
+# Builds the examples with CMake against the installed library.
+with_cmake() { # WHAT TARGET
+    good "$1: configured" cmake -S examples -B "$work/cmake" -DCMAKE_PREFIX_PATH="$there" -DDTED="$2" \
+        -DCMAKE_C_COMPILER="$cc" "${cross[@]}"
+    good "$1: built" cmake --build "$work/cmake" && run_examples "$1" "$work/cmake"
+    same "$1: what it looks for" "$([ "$2" = dted::dted ] || echo "libdted.so.$soversion")" "$(needed "$work/cmake/judge")"
+    rm -rf "$work/cmake"
+}
+
+# What CMake says of a request for a version.
+asked_for() { # VERSION
+    printf '%s\n' 'cmake_minimum_required(VERSION 3.13)' 'project(asks NONE)' "find_package(dted $1 REQUIRED)" >"$work/CMakeLists.txt"
+    rm -rf "$work/asks"
+    cmake -S "$work" -B "$work/asks" -DCMAKE_PREFIX_PATH="$there"
+}
+
+# Uninstalls; no file may be left, and no folder of the library's own.
+take_away() { # WHAT VARIABLE..
+    good "$1" make uninstall DESTDIR="$stage" PREFIX="$prefix" "${@:2}"
+    same "$1: nothing is left" '' "$(find "$stage" ! -type d -o -path '*cmake/dted')"
+    rm -rf "$stage"
+}
+
+# The functions of both headers, as the compiler sees them: each has a manual page.
+functions=$(printf '#include <%s>\n' dted.h dted_words.h | "$cc" -E -P -Iinclude -x c - | grep -oE '\bdted_[a-z0-9_]+\(' |
+    tr -d '(' | sort -u)
+due=$({
+    sed -e "s/@VERSION@/$version/" -e "s/@SOVERSION@/$soversion/" tests/package.files
+    # shellcheck disable=SC2086
+    printf 'share/man/man3/%s.3\n' $functions
+} | sort)
+
+# ---- with one prefix ----
+good 'install' make install DESTDIR="$stage" PREFIX="$prefix"
+good 'install once more' make install DESTDIR="$stage" PREFIX="$prefix"
+same 'installed files' "$due" "$(cd "$there" && find . ! -type d -printf '%P\n' | sort)"
+same 'files that name the stage' '' "$(grep -rl "$work" "$stage")"
+same 'files with a place to fill' '' "$(grep -rlE '@[A-Z_]+@' "$stage")"
+for module in dted dted-shared; do
+    same "the version in $module.pc" "$version" "$(config $module --modversion)"
+done
+for compiler in "$cc" $second; do
+    built=yes
+    for name in judge write; do
+        good "$name, by $compiler" build "$compiler" dted "examples/$name.c" "$work/$name" || built=
+    done
+    [ -z "$built" ] || run_examples "pkg-config, $compiler" "$work"
+    same "what $compiler links by dted" '' "$(needed "$work/judge")"
+    good "judge, by $compiler and dted-shared" build "$compiler" dted-shared examples/judge.c "$work/judge" &&
+        same "what $compiler links by dted-shared" "libdted.so.$soversion" "$(needed "$work/judge")"
+done
+good "the README's example" build "$cc" dted "$work/readme.c" "$work/readme" &&
+    same "the README's example, run" 486 "$(tools/x86-64 "$work/readme" <cells/terrain.dt0)"
+good "the README's example, shared" build "$cc" dted-shared "$work/readme.c" "$work/readme" &&
+    same "the README's example, shared, run" 486 "$(LD_LIBRARY_PATH=$there/lib tools/x86-64 "$work/readme" <cells/terrain.dt0)"
+for header in dted dted_words; do
+    # shellcheck disable=SC2046
+    good "$header.h in C++" "$cxx" -std=c++11 -Wall -Wextra -Wpedantic -Werror $(config dted --cflags) -fsyntax-only \
+        -x c++ - <<<"#include <$header.h>"
+done
+with_cmake 'CMake' dted::dted
+with_cmake 'CMake, shared' dted::shared
+good 'CMake asks for this version' asked_for "$version"
+good 'CMake asks for its first two numbers' asked_for "$soversion"
+bad 'CMake asks for other calls' 'considered but not accepted' asked_for "${soversion%.*}.$((${soversion#*.} - 1))"
+bad 'CMake asks for a later version' 'considered but not accepted' asked_for "${version%.*}.$((${version##*.} + 1))"
+
+# ---- from Python, where it can load the library ----
+height() { # CELL LATITUDE LONGITUDE
+    echo "$(examples/height.py "$there/lib/libdted.so" "$@" 2>/dev/null), status $?"
+}
+if [ "$(uname -m)" = x86_64 ]; then
+    same 'height.py' '486, status 0' "$(height cells/terrain.dt0 46.5 7.5)"
+    same 'height.py, below the sea' '-60, status 0' "$(height cells/north_89.dt0 89 0)"
+    same 'height.py, a void' 'void, status 0' "$(height cells/void_in_partial.dt0 90 1)"
+    same 'height.py, a wrong checksum' 'refused 5 3678, status 1' "$(height cells/wrong_first_checksum.dt0 0 -180)"
+    same 'height.py, off the cell' 'refused 8 0, status 1' "$(height cells/terrain.dt0 1e300 7.5)"
+    same 'height.py, no number' ', status 2' "$(height cells/terrain.dt0 north 7.5)"
+    same 'height.py, no file' ', status 2' "$(height cells/none.dt0 46.5 7.5)"
+fi
+
+# ---- the lines of docs/MANY.md that need one machine, as the page has them ----
+if [ "$(uname -m)" = x86_64 ]; then
+    mkdir "$work/many" && cp -r cells "$work/many"
+    sed -n '/^```sh$/,/^```$/{/^```/!p}' docs/MANY.md | grep -v parallel >"$work/many/script"
+    (cd "$work/many" && PATH=$there/bin:$PATH bash -e <(sed 's/>lines 2>unread$/& || [ $? = 123 ]/' script))
+    same 'docs/MANY.md, the status where refusals are no failure' 0 $?
+    same 'docs/MANY.md, the lines' "$(find cells -name '*.dt?' | wc -l)" "$(grep -c . "$work/many/lines")"
+    same 'docs/MANY.md, the refused cells' "$(grep -l '^refused' cells/*.line | sed 's/\.line$//')" \
+        "$(sed 's/\.dt.$//' "$work/many/refused" | sort)"
+fi
+
+# ---- manual pages ----
+for page in man/*; do
+    # the pages that they name need not be installed here
+    same "$page" '' \
+        "$(cd "$there/share/man" && mandoc -Tlint -Wstyle man?/"${page##*/}" 2>&1 | grep -v 'referenced manual not found')"
+done
+same "functions whose page is not the library's" '' "$(cd "$there/share/man/man3" && grep -LFx '.so man3/dted.3' dted_*)"
+take_away 'uninstall'
+
+# ---- with folders of the caller's ----
+other=(LIBDIR="$prefix/lib/x86_64-linux-gnu" INCLUDEDIR="$prefix/share/dted/include" MANDIR="$prefix/man")
+good 'install in other folders' make install DESTDIR="$stage" PREFIX="$prefix" "${other[@]}"
+good 'judge, from other folders' build "$cc" dted examples/judge.c "$work/judge"
+with_cmake 'CMake, from other folders' dted::dted
+take_away 'uninstall from other folders' "${other[@]}"
