@@ -118,8 +118,8 @@ else
 INTAKE ?= $(shell [ ! -x $(PROGRAM) ] || [ "$$(find $(INTAKE_SOURCES) -prune -newer $(PROGRAM))" ] || echo $(PROGRAM))
 endif
 
-# each function of the headers has the library's manual page under its own name too
-FUNCTIONS := ${shell sed -nE 's/^[A-Za-z][A-Za-z0-9_ *]*[ *](dted_[a-z0-9_]+)\(.*/\1/p' $(HEADERS)}
+# each function of the headers, but for their own, which end in _, has the library's manual page under its name too
+FUNCTIONS := ${shell sed -nE 's/^[A-Za-z][A-Za-z0-9_ *]*[ *](dted_[a-z0-9_]*[a-z0-9])\(.*/\1/p' $(HEADERS)}
 FUNCTION_PAGES := $(FUNCTIONS:%=$(MANDIR)/man3/%.3)
 PAGES := $(foreach page,$(wildcard man/*.[1-9]),$(MANDIR)/man$(subst .,,$(suffix $(page)))/$(notdir $(page)))
 LIBRARIES := $(addprefix $(LIBDIR)/,libdted.a libdted.so libdted.so.$(SOVERSION) libdted.so.$(VERSION))

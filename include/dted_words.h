@@ -1,5 +1,5 @@
 /* dted_words.h - the answers of dted.h in words, for logs and for people. The words may change from version to version: a program goes
- * by the numbers. It needs nothing of the archive. For C99 and C++11.
+ * by the numbers. It needs nothing of the archive. For C99 and C++11. Names that end in _ are this header's own.
  */
 #ifndef DTED_WORDS_H
 #define DTED_WORDS_H
@@ -16,10 +16,10 @@
 /* What a refusal says, and what its place counts; null where the place says nothing. */
 typedef struct {
     const char *reason, *place;
-} dted_refusal_words;
+} dted_refusal_words_;
 
 /* In the order of their numbers; the last one is for every other number. */
-static const dted_refusal_words dted_refusals[] = {
+static const dted_refusal_words_ dted_refusals_[] = {
     {"accepted", NULL},
     {"fewer bytes than the headers have", "length"},
     {"a header field breaks its rule", "offset"},
@@ -40,10 +40,10 @@ static const dted_refusal_words dted_refusals[] = {
 typedef struct {
     unsigned first, end;
     const char *name;
-} dted_field_words;
+} dted_field_words_;
 
 /* In the order of their offsets; positions count from 1 inside the record. */
-static const dted_field_words dted_fields[] = {
+static const dted_field_words_ dted_fields_[] = {
     {0, 4, "UHL 1-4, record name"},
     {4, 12, "UHL 5-12, origin longitude"},
     {12, 20, "UHL 13-20, origin latitude"},
@@ -87,19 +87,19 @@ static const dted_field_words dted_fields[] = {
 };
 
 /* The words of a refusal's number. */
-static inline const dted_refusal_words *dted_words_of(unsigned number) {
-    const unsigned unknown = sizeof dted_refusals / sizeof *dted_refusals - 1;
-    return &dted_refusals[number < unknown ? number : unknown];
+static inline const dted_refusal_words_ *dted_words_of_(unsigned number) {
+    const unsigned unknown = sizeof dted_refusals_ / sizeof *dted_refusals_ - 1;
+    return &dted_refusals_[number < unknown ? number : unknown];
 }
 
 /* What a number of dted.h says, in a few words; "accepted" for DTED_OK. */
-static inline const char *dted_reason(unsigned number) { return dted_words_of(number)->reason; }
+static inline const char *dted_reason(unsigned number) { return dted_words_of_(number)->reason; }
 
 /* The header field that has the byte at this offset in the file, by its position and name; null where none has it. */
 static inline const char *dted_field(uint64_t offset) {
-    for (size_t i = 0; i < sizeof dted_fields / sizeof *dted_fields; i++)
-        if (offset >= dted_fields[i].first && offset < dted_fields[i].end)
-            return dted_fields[i].name;
+    for (size_t i = 0; i < sizeof dted_fields_ / sizeof *dted_fields_; i++)
+        if (offset >= dted_fields_[i].first && offset < dted_fields_[i].end)
+            return dted_fields_[i].name;
     return NULL;
 }
 
@@ -114,18 +114,18 @@ static inline const char *dted_item_name(uint64_t number) {
 }
 
 /* What stands at a refusal's place, where it has a name. */
-static inline const char *dted_place_name(unsigned number, uint64_t place) {
+static inline const char *dted_place_name_(unsigned number, uint64_t place) {
     if (number == DTED_FIELD)
         return dted_field(place);
     return number == DTED_ITEM ? dted_item_name(place) : NULL;
 }
 
 /* The whole phrase of dted_refusal, whose room is enough. */
-static inline void dted_phrase(char whole[DTED_WORDS_ROOM], dted_answer answer) {
+static inline void dted_phrase_(char whole[DTED_WORDS_ROOM], dted_answer answer) {
     unsigned number = dted_number(answer);
-    const dted_refusal_words *words = dted_words_of(number);
+    const dted_refusal_words_ *words = dted_words_of_(number);
     uint64_t place = number == DTED_OK ? 0 : dted_place(answer);
-    const char *name = dted_place_name(number, place);
+    const char *name = dted_place_name_(number, place);
     if (number == DTED_OK)
         snprintf(whole, DTED_WORDS_ROOM, "%s", words->reason);
     else if (!words->place)
@@ -139,7 +139,7 @@ static inline void dted_phrase(char whole[DTED_WORDS_ROOM], dted_answer answer) 
  * `text`, which has `room` bytes, cut where it does not fit, and `text` is returned. */
 static inline const char *dted_refusal(char *text, size_t room, dted_answer answer) {
     char whole[DTED_WORDS_ROOM];
-    dted_phrase(whole, answer);
+    dted_phrase_(whole, answer);
     size_t length = strlen(whole);
     if (room == 0)
         return text;

@@ -44,8 +44,8 @@ take_away() { # WHAT VARIABLE..
     rm -rf "$stage"
 }
 
-# The functions of both headers, as the compiler sees them: each has a manual page.
-functions=$(printf '#include <%s>\n' dted.h dted_words.h | "$cc" -E -P -Iinclude -x c - | grep -oE '\bdted_[a-z0-9_]+\(' |
+# The functions of both headers, as the compiler sees them: each has a manual page, but for the headers' own, which end in _.
+functions=$(printf '#include <%s>\n' dted.h dted_words.h | "$cc" -E -P -Iinclude -x c - | grep -oE '\bdted_[a-z0-9_]*[a-z0-9]\(' |
     tr -d '(' | sort -u)
 due=$({
     sed -e "s/@VERSION@/$version/" -e "s/@SOVERSION@/$soversion/" tests/package.files
