@@ -10,6 +10,7 @@
 #include <fcntl.h>
 #include <math.h>
 #include <stdlib.h>
+#include <sys/stat.h>
 #include <unistd.h>
 
 /* An accepted cell, and how many metres apart its columns and its posts are. */
@@ -66,6 +67,15 @@ static int draw(const struct map *map, const char *picture) {
     return status;
 }
 
+/* Whether the picture would be written over the cell that it is drawn from. */
+static bool is_same_file(const char *cell, const char *picture) {
+    struct stat from, to;
+    int there = strcmp(cell, "-") == 0 ? fstat(STDIN_FILENO, &from) : stat(cell, &from);
+    if (there != 0 || strcmp(picture, "-") == 0 || stat(picture, &to) != 0)
+        return false;
+    return S_ISREG(to.st_mode) && from.st_dev == to.st_dev && from.st_ino == to.st_ino;
+}
+
 /* A degree is 60 nautical miles, and along a parallel shorter by the cosine of its latitude. */
 int relief(struct cell *cell, char **words) {
     static const double degree = 60 * 1852.0, radian = 57.29577951308232;
@@ -73,6 +83,8 @@ int relief(struct cell *cell, char **words) {
     double times = 1;
     if (words[2] && !take_factor(words[2], &times))
         return TROUBLE;
+    if (is_same_file(words[0], words[1]))
+        return complain(TROUBLE, words[1], "this is the cell itself");
     int status = take_cell(cell, words[0]);
     if (status != DONE)
         return status;

@@ -98,10 +98,19 @@ def relief(folder):
     for word in ("1e308", "1e-300"):
         drawn = run("relief", terrain, "-", word)
         same(f"relief, {word} times", (len(picture), 0), (len(drawn.stdout), drawn.returncode))
+    copy = filled(folder / "copy.dt0", terrain.read_bytes())
+    (folder / "link.pgm").symlink_to("copy.dt0")
+    for word in ("copy.dt0", "link.pgm"):
+        told(f"relief over its own cell, as {word}", ("relief", copy, folder / word),
+             errors=f"dted: {folder / word}: this is the cell itself\n", status=2)
+    with open(copy, "rb") as file:
+        told("relief over standard input", ("relief", "-", copy), errors=f"dted: {copy}: this is the cell itself\n", status=2, stdin=file)
+    same("the cell stays", terrain.read_bytes(), copy.read_bytes())
     told("relief into no folder", ("relief", terrain, folder / "no/out.pgm"), errors=f"dted: {folder}/no/out.pgm: No such file or directory\n",
          status=2)
     told("relief on a full device", ("relief", terrain, "/dev/full"), errors="dted: /dev/full: No space left on device\n", status=2)
-    os.unlink(out)
+    for name in ("out.pgm", "copy.dt0", "link.pgm"):
+        os.unlink(folder / name)
 
 
 def test(folder):
