@@ -75,7 +75,7 @@ def wide(folder):
     nines = "9" * 100000
     for latitude in ("0" * 1000 + "46.5", "46.5" + "0" * 100000, f"46.4999{nines}", "46:30:00.00" + nines[:1000], "46:0030:00"):
         told("many digits", ("at", cell, latitude, "7.5E"), "486 column 60 post 60\n")
-    for latitude, longitude in ((nines, "7.5"), (f"-{nines}.5", "7.5"), ("46.5", f"{nines}:59:59.9W"), ("256204778801.52", "7.5"),
+    for latitude, longitude in ((nines, "7.5"), (f"-{nines}.5", "7.5"), ("46.5", f"{nines}:59:59.9W"), (str(2**64 + 46), "7.5"), (str(2**59 + 46), "7.5"),
                                 ("46.5", "367.5"), ("46.5", "-7.5"), ("7.5", "46.5"), ("91", "7"), ("47:00:00.1", "7.5"), ("46.5", "6.9999")):
         told("off the grid", ("at", cell, latitude, longitude), errors=f"dted: {cell}: {OFF_GRID}\n", status=1)
     west = ROOT / "cells/west_180.dt0"

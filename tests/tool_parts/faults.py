@@ -21,21 +21,21 @@ def calls(folder, names):
 def lines(folder):
     """A line by one write; a write or a read that is short or broken off goes on."""
     cell, log = filled(folder / "cell.dt0", stored("north_89.dt0")[0]), fresh(folder, "log")
-    told("check under strace", ("check", cell, cell), f"{cell}: {LINE}" * 2, before=strace(log, "-e", "trace=write"))
+    told("check under strace", ("check", cell, cell), f"{cell}: {LINE}" * 2, under=strace(log, "-e", "trace=write"))
     same("one write to a line", 2, len(calls(log, "write")))
-    told("a write that is broken off", ("check", cell), f"{cell}: {LINE}", before=strace(log, "-e", "inject=write:error=EINTR:when=1"))
+    told("a write that is broken off", ("check", cell), f"{cell}: {LINE}", under=strace(log, "-e", "inject=write:error=EINTR:when=1"))
     told("a read that is broken off", ("check", cell), f"{cell}: {LINE}",
-         before=strace(log, "-P", str(cell), "-e", "inject=read:error=EINTR:when=1"))
-    told("a short write", ("check", cell), f"{cell}: {LINE}"[5:], before=strace(log, "-e", "inject=write:retval=5:when=1"))
+         under=strace(log, "-P", str(cell), "-e", "inject=read:error=EINTR:when=1"))
+    told("a short write", ("check", cell), f"{cell}: {LINE}"[5:], under=strace(log, "-e", "inject=write:retval=5:when=1"))
     told("a read that fails in the middle", ("check", cell), errors=f"dted: {cell}: Input/output error\n", status=2,
-         before=strace(log, "-P", str(cell), "-e", "inject=read:error=EIO:when=2"))
+         under=strace(log, "-P", str(cell), "-e", "inject=read:error=EIO:when=2"))
 
 
 def in_order(folder):
     """The new file is written and synced, then renamed, then the folder is synced: the disk never has a name without its bytes."""
     cell, log = filled(folder / "cell.dt0", second_writer.repeated(1, 89, 7)), fresh(folder, "log")
     told("set under strace", ("set", cell, 1, 2, 3), f"{cell}: column 1, post 2: -326, now 3\n",
-         before=strace(log, "-y", "-e", "trace=flock,read,fchown,fchmod,write,fsync,rename,unlink"))
+         under=strace(log, "-y", "-e", "trace=flock,read,fchown,fchmod,write,fsync,rename,unlink"))
     made = calls(log, "flock|fchown|fchmod|write|fsync|rename|unlink")
     same("its calls", ["flock", "fchown", "fchmod", "write", "fsync", "rename", "fsync", "write"], [c.partition("(")[0] for c in made])
     same("what is synced", [True, True], [".cell.dt0.dted-" in made[4], f"<{folder}>" in made[6]] if len(made) == 8 else made)
@@ -48,14 +48,14 @@ def failures(folder):
     for inject, why in (("flock:error=ENOLCK", "No locks available"), ("fchmod:error=EROFS", "Read-only file system"),
                         ("fchown:error=EIO", "Input/output error"), ("fsync:error=EIO:when=1", "Input/output error"),
                         ("write:error=ENOSPC:when=1", "No space left on device"), ("rename:error=EACCES", "Permission denied")):
-        told(f"set where {inject}", ("set", cell, 1, 2, 3), errors=f"dted: {cell}: {why}\n", status=2, before=strace(log, "-e", f"inject={inject}"))
+        told(f"set where {inject}", ("set", cell, 1, 2, 3), errors=f"dted: {cell}: {why}\n", status=2, under=strace(log, "-e", f"inject={inject}"))
         same("the old cell alone", (True, ["cell.dt0", "log"]), (cell.read_bytes() == data, named(folder)))
     told("set where the folder cannot be synced", ("set", cell, 1, 2, 3), errors=f"dted: {cell}: Input/output error\n", status=2,
-         before=strace(log, "-e", "inject=fsync:error=EIO:when=2"))
+         under=strace(log, "-e", "inject=fsync:error=EIO:when=2"))
     same("the new cell", True, cell.read_bytes() == with_height(data, 1, 2, 3))
     for inject, before in (("fchown:error=EPERM", 3), ("fsync:error=EINVAL:when=2", 4)):
         told(f"set where {inject}", ("set", cell, 1, 2, before + 1), f"{cell}: column 1, post 2: {before}, now {before + 1}\n",
-             before=strace(log, "-e", f"inject={inject}"))
+             under=strace(log, "-e", f"inject={inject}"))
     same("names", ["cell.dt0", "log"], named(folder))
 
 
@@ -67,7 +67,7 @@ def killed(folder):
         filled(cell, old)
         name, _, when = call.partition(":")
         told(f"killed before {call}", ("set", cell, 1, 2, 3), status=-signal.SIGKILL,
-             before=strace(log, "-e", f"inject={name}:signal=KILL{':' + when if when else ''}"))
+             under=strace(log, "-e", f"inject={name}:signal=KILL{':' + when if when else ''}"))
         same("the cell", True, cell.read_bytes() == due)
         left = [path for path in folder.iterdir() if path not in (cell, log)]
         same("left over", [True] if due == old else [], [path.name.startswith(".cell.dt0.dted-") for path in left])
@@ -80,7 +80,7 @@ def replaced(folder):
     data, log = stored("north_89.dt0")[0], fresh(folder, "log")
     cell = filled(folder / "cell.dt0", data)
     other = filled(folder / "other", with_height(data, 5, 5, 55))
-    slow = subprocess.Popen([*strace(log, "-e", "inject=flock:delay_enter=500000:when=1"), *command("set", cell, 1, 2, 3)[1:]],
+    slow = subprocess.Popen(command("set", cell, 1, 2, 3, under=strace(log, "-e", "inject=flock:delay_enter=500000:when=1")),
                             stdout=subprocess.PIPE)
     time.sleep(0.25)
     other.rename(cell)

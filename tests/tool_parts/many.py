@@ -86,12 +86,14 @@ def progress(folder, lines):
     bad, good, missing = ROOT / "cells/one_short.dt0", ROOT / "cells/north_89.dt0", folder / "missing"
     pipe, empty = folder / "pipe", "refused 1: fewer bytes than the headers have (length 0)"
     os.mkfifo(pipe)
-    rows = [f"{bad}: {BAD}", f"{pipe}: {empty}", f"dted: {missing}: No such file or directory", f"{good}: {GOOD}", ""]
+    rows = [f"{bad}: {BAD}", f"dted: {missing}: No such file or directory", f"{pipe}: {empty}", f"{good}: {GOOD}", ""]
     for lines_too in (True, False):
         slowly(pipe)
-        text, _ = on_terminal(("check", bad, pipe, missing, good), lines_too)
-        same("how far it has come", ["0 of 4, 0 refused", "2 of 4, 2 refused"], re.findall(r"\r (\d+ of \d+, \d+ refused)", text))
-        same("what is seen in the end", rows if lines_too else [rows[2], ""], screen(text))
+        text, _ = on_terminal(("check", bad, missing, pipe, good), lines_too)
+        blanks = " " * len(" 0 of 4, 0 refused")
+        same("how far it has come, and that it is wiped", [f"\r {n} refused\r\r{blanks}\r" for n in ("0 of 4, 0", "3 of 4, 2")],
+             re.findall(r"\r \d.*refused\r(?:\r *\r)?", text))
+        same("what is seen in the end", rows if lines_too else [rows[1], ""], screen(text))
     text, seconds = on_terminal(("check", *lines), True)
     same("what is seen of 400 files", [line.rstrip() for line in lines.values()] + [""], screen(text))
     shown = text.count(" of 400, ")

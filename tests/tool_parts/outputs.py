@@ -34,35 +34,36 @@ def unread(cell):
 
 
 def without(*descriptors):
+    """A run with these closed, and no shell before it, which would put files there."""
     def close():
         for descriptor in descriptors:
             os.close(descriptor)
-    return close
+    return {"preexec_fn": close, "under": ()}
 
 
 def closed(folder):
     """Standard input, output and error closed at the start, alone and together."""
     cell = filled(folder / "cell.dt0", stored("north_89.dt0")[0])
     for words in commands(cell):
-        told(f"{words[0]}, no standard output", words, errors=CLOSED, status=2, preexec_fn=without(1))
-        told(f"{words[0]}, neither output nor input", words, errors=CLOSED, status=2, preexec_fn=without(0, 1))
-        told(f"{words[0]}, nothing at all", words, status=2, preexec_fn=without(0, 1, 2))
+        told(f"{words[0]}, no standard output", words, errors=CLOSED, status=2, **without(1))
+        told(f"{words[0]}, neither output nor input", words, errors=CLOSED, status=2, **without(0, 1))
+        told(f"{words[0]}, nothing at all", words, status=2, **without(0, 1, 2))
     same("the cell", True, cell.read_bytes() == with_height(stored("north_89.dt0")[0], 1, 2, 3))
-    told("no standard input", ("check", "-"), errors="dted: -: Bad file descriptor\n", status=2, preexec_fn=without(0))
-    told("no standard input, and not needed", ("post", cell, 1, 2), "3\n", preexec_fn=without(0))
+    told("no standard input", ("check", "-"), errors="dted: -: Bad file descriptor\n", status=2, **without(0))
+    told("no standard input, and not needed", ("post", cell, 1, 2), "3\n", **without(0))
     told("no standard error", ("check", folder / "x", cell), f"{cell}: accepted, level 0, 21 columns of 121 posts\n", status=2,
-         preexec_fn=without(2))
+         **without(2))
 
 
 def not_in_files(folder):
     """What would be said on a closed standard error is in no file: neither in the cell, nor in the picture."""
     bad = filled(folder / "bad.dt0", stored("wrong_first_checksum.dt0")[0])
     for streams in ((2,), (1, 2), (0, 1, 2), (0, 2)):
-        told("set of a refused cell", ("set", bad, 1, 2, 3), status=1, preexec_fn=without(*streams))
+        told("set of a refused cell", ("set", bad, 1, 2, 3), status=1, **without(*streams))
         same("the cell", True, bad.read_bytes() == stored("wrong_first_checksum.dt0")[0])
     good = ROOT / "cells/north_89.dt0"
     picture = run("relief", good, "-").stdout
-    told("relief, no streams", ("relief", good, folder / "out.pgm"), preexec_fn=without(0, 1, 2))
+    told("relief, no streams", ("relief", good, folder / "out.pgm"), **without(0, 1, 2))
     same("the picture", True, (folder / "out.pgm").read_bytes() == picture)
     same("names", ["bad.dt0", "out.pgm"], named(folder))
 

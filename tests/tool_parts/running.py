@@ -19,16 +19,17 @@ def same(what, expected, got):
         print(f"{what}: expected {expected}, got {got}")
 
 
-def command(*words):
-    return [X86_64, program, *(w if isinstance(w, bytes) else str(w) for w in words)]
+def command(*words, under=(X86_64,)):
+    """The tool on words, under another program: the one for all machines is a shell script, which has files of its own."""
+    return [*under, program, *(w if isinstance(w, bytes) else str(w) for w in words)]
 
 
-def run(*words, before=(), **how):
-    """A run of the tool, under another program where `before` names one; input is none where none is given."""
+def run(*words, under=(X86_64,), **how):
+    """A run of the tool; its input is empty where none is given."""
     streams = {"stdout": subprocess.PIPE, "stderr": subprocess.PIPE, "timeout": 60}
     if "input" not in how:
         streams["stdin"] = subprocess.DEVNULL
-    return subprocess.run([*before, *command(*words)[1 if before else 0:]], **{**streams, **how})
+    return subprocess.run(command(*words, under=under), **{**streams, **how})
 
 
 def told(what, words, out="", errors="", status=0, **how):
