@@ -1,4 +1,5 @@
 # The names of the archive and of the shared library. A part of tests/package.
+# shellcheck shell=bash disable=SC2016,SC2154
 
 # The global names that a file defines, or with other words of nm, those that it needs.
 names() { # FILE WORD..

@@ -1,4 +1,5 @@
 # Which run `make figures` keeps, and what `make bench` changes, with a stand-in for the bench. A part of tests/package.
+# shellcheck shell=bash disable=SC2016,SC2154
 kit=$work/kit/on/$(uname -m)/toolchain/bin
 mkdir -p "$kit" "$tree/target/bench"
 printf '#!/bin/sh\necho clang version 1.2.3\n' >"$kit/clang"

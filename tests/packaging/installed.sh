@@ -1,4 +1,5 @@
 # The library, installed into a stage and built against. A part of tests/package.
+# shellcheck shell=bash disable=SC2016,SC2154
 
 # The libraries of ours that a program looks for when it starts.
 needed() { # PROGRAM

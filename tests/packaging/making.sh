@@ -1,4 +1,5 @@
 # What make asks the kit for and when, in the unpacked sources with a stand-in for rt. A part of tests/package.
+# shellcheck shell=bash disable=SC2016,SC2154
 tree=$work/empty/dted-$version
 
 # A stand-in that notes what it is asked, prints as rt does, and makes the archive or the program: with PROVED=yes no program, since

@@ -1,4 +1,5 @@
 # Both archives of `make dist`, unpacked and installed where there is no kit. A part of tests/package.
+# shellcheck shell=bash disable=SC2016,SC2154
 dist=$work/dist empty=$work/empty bare=$work/bare
 packed=dted-$version-x86_64-linux
 
@@ -20,7 +21,7 @@ unpack() { # NAME
 
 # The words that pkg-config has for an install that was not staged.
 flags() { # PREFIX
-    PKG_CONFIG_LIBDIR=$1/lib/pkgconfig pkg-config --cflags --libs dted
+    without_kit "$work" env PKG_CONFIG_LIBDIR="$1/lib/pkgconfig" pkg-config --cflags --libs dted
 }
 
 good 'dist' make -s dist DIST="$dist"
