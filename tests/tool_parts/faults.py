@@ -48,7 +48,8 @@ def failures(folder):
     for inject, why in (("flock:error=ENOLCK", "No locks available"), ("fchmod:error=EROFS", "Read-only file system"),
                         ("fchown:error=EIO", "Input/output error"), ("fsync:error=EIO:when=1", "Input/output error"),
                         ("write:error=ENOSPC:when=1", "No space left on device"), ("rename:error=EACCES", "Permission denied")):
-        told(f"set where {inject}", ("set", cell, 1, 2, 3), errors=f"dted: {cell}: {why}\n", status=2, under=strace(log, "-e", f"inject={inject}"))
+        told(f"set where {inject}", ("set", cell, 1, 2, 3), errors=f"dted: {cell}: {why}\n", status=2,
+             under=strace(log, "-e", f"inject={inject}"))
         same("the old cell alone", (True, ["cell.dt0", "log"]), (cell.read_bytes() == data, named(folder)))
     told("set where the folder cannot be synced", ("set", cell, 1, 2, 3), errors=f"dted: {cell}: Input/output error\n", status=2,
          under=strace(log, "-e", "inject=fsync:error=EIO:when=2"))
@@ -80,9 +81,9 @@ def replaced(folder):
     data, log = stored("north_89.dt0")[0], fresh(folder, "log")
     cell = filled(folder / "cell.dt0", data)
     other = filled(folder / "other", with_height(data, 5, 5, 55))
-    slow = subprocess.Popen(command("set", cell, 1, 2, 3, under=strace(log, "-e", "inject=flock:delay_enter=500000:when=1")),
+    slow = subprocess.Popen(command("set", cell, 1, 2, 3, under=strace(log, "-e", "inject=flock:delay_enter=1000000:when=1")),
                             stdout=subprocess.PIPE)
-    time.sleep(0.25)
+    time.sleep(0.3)
     other.rename(cell)
     same("its line", f"{cell}: column 1, post 2: {height(data, 1, 2)}, now 3\n".encode(), slow.communicate()[0])
     same("both are kept", True, cell.read_bytes() == with_height(with_height(data, 5, 5, 55), 1, 2, 3))

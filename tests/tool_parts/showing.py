@@ -98,8 +98,8 @@ def relief(folder):
     for word in ("1e308", "1e-300"):
         drawn = run("relief", terrain, "-", word)
         same(f"relief, {word} times", (len(picture), 0), (len(drawn.stdout), drawn.returncode))
-    told("relief into no folder", ("relief", terrain, folder / "no/out.pgm"), errors=f"dted: {folder}/no/out.pgm: No such file or directory\n",
-         status=2)
+    told("relief into no folder", ("relief", terrain, folder / "no/out.pgm"), status=2,
+         errors=f"dted: {folder}/no/out.pgm: No such file or directory\n")
     told("relief on a full device", ("relief", terrain, "/dev/full"), errors="dted: /dev/full: No space left on device\n", status=2)
     os.unlink(out)
 
