@@ -44,14 +44,14 @@ def digits(chosen, base):
 def everywhere(folder):
     """Positions in two cells, one north and east of 0, the other south and west of it."""
     chosen = random.Random(2)
-    for (south, west), (base, letter) in (((46, 7), ("NE", False)), ((-47, -8), ("SW", True))):
+    for south, west, below in ((46, 7, False), (-47, -8, True)):
         cell = second_writer.repeated(0, south, west)
         filled(folder / "cell", cell)
         for _ in range(12):
             for latitude, longitude in zip(digits(chosen, 46), digits(chosen, 7)):
-                north, east = (t if not letter else -t for t in (tenths(latitude), tenths(longitude)))
+                north, east = (-tenths(text) if below else tenths(text) for text in (latitude, longitude))
                 post, column = nearest(north - south * 36000, 300), nearest(east - west * 36000, 300)
-                words = chosen.choice(forms(latitude, "NS", letter)), chosen.choice(forms(longitude, "EW", letter))
+                words = chosen.choice(forms(latitude, "NS", below)), chosen.choice(forms(longitude, "EW", below))
                 told(f"at {words}", ("at", folder / "cell", *words), f"{height(cell, column, post)} column {column} post {post}\n")
 
 

@@ -35,7 +35,9 @@ def in_order(folder):
     """The new file is written and synced, then renamed, then the folder is synced: the disk never has a name without its bytes."""
     cell, log = filled(folder / "cell.dt0", second_writer.repeated(1, 89, 7)), fresh(folder, "log")
     told("set under strace", ("set", cell, 1, 2, 3), f"{cell}: column 1, post 2: -326, now 3\n",
-         under=strace(log, "-y", "-e", "trace=flock,read,fchown,fchmod,write,fsync,rename,unlink"))
+         under=strace(log, "-y", "-e", "trace=openat,flock,fchown,fchmod,write,fsync,rename,unlink"))
+    opened = [call for call in calls(log, "openat") if f'"{cell}"' in call]
+    same("opened for writing, so that a cell which may not be written is told", ["O_RDWR"], re.findall("O_RD[A-Z]*", "".join(opened)))
     made = calls(log, "flock|fchown|fchmod|write|fsync|rename|unlink")
     same("its calls", ["flock", "fchown", "fchmod", "write", "fsync", "rename", "fsync", "write"], [c.partition("(")[0] for c in made])
     same("what is synced", [True, True], [".cell.dt0.dted-" in made[4], f"<{folder}>" in made[6]] if len(made) == 8 else made)

@@ -70,7 +70,7 @@ def posts():
 
 def of_refused_cells(folder):
     """Nothing is told or drawn of a cell that check refuses, also of its good columns."""
-    bad, empty = ROOT / "cells/wrong_first_checksum.dt0", fresh(folder, "empty")
+    bad, empty = filled(folder / "bad.dt0", stored("wrong_first_checksum.dt0")[0]), fresh(folder, "empty")
     for words in (("info", bad), ("post", bad, 5, 5), ("at", bad, "0.5", "-179.5"), ("relief", bad, empty / "out.pgm"),
                   ("set", bad, 5, 5, 7)):
         told(f"{words[0]} of a refused cell", words, errors=f"dted: {bad}: {CHECKSUM}\n", status=1)
