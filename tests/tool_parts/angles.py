@@ -8,8 +8,8 @@ OFF_GRID = "refused 8: no such column, post or position"
 # not angles, as a latitude and as a longitude alike
 WRONG = ("", "N", "E", "-", "+", ".", ":", "46.", ".5", "46,5", "46.5.5", "46:30", "46:30:", "46::00", ":30:00", "46:60:00", "46:00:60",
          "46:99999999999999999999:00", "46:30.5:00", "46.5:30:00", "46:30:00:00", "46:30:00.", "46:-30:00", "46:+30:00", "46:30:-1",
-         "--46", "+-46", "-46N", "+46N", "-46E", "+46E", "N46", "E46", "46NN", "46EE", "46NE", "46 N", " 46", "46 ", "4 6", "46\n", "46:30N:00", "1e2",
-         "0x2E", "nan", "inf", "４６", "46x", "46;30;00", "46.5-", "46:30:00,5")
+         "--46", "+-46", "-46N", "+46N", "-46E", "+46E", "N46", "E46", "46NN", "46EE", "46NE", "46 N", " 46", "46 ", "4 6",
+         "46\n", "46:30N:00", "1e2", "0x2E", "nan", "inf", "４６", "46x", "46;30;00", "46.5-", "46:30:00,5")
 
 
 def tenths(text):
@@ -44,14 +44,14 @@ def digits(chosen, base):
 def everywhere(folder):
     """Positions in two cells, one north and east of 0, the other south and west of it."""
     chosen = random.Random(2)
-    for (south, west), (base, letter) in (((46, 7), ("NE", False)), ((-47, -8), ("SW", True))):
+    for south, west, below in ((46, 7, False), (-47, -8, True)):
         cell = second_writer.repeated(0, south, west)
         filled(folder / "cell", cell)
         for _ in range(12):
             for latitude, longitude in zip(digits(chosen, 46), digits(chosen, 7)):
-                north, east = (t if not letter else -t for t in (tenths(latitude), tenths(longitude)))
+                north, east = (-tenths(text) if below else tenths(text) for text in (latitude, longitude))
                 post, column = nearest(north - south * 36000, 300), nearest(east - west * 36000, 300)
-                words = chosen.choice(forms(latitude, "NS", letter)), chosen.choice(forms(longitude, "EW", letter))
+                words = chosen.choice(forms(latitude, "NS", below)), chosen.choice(forms(longitude, "EW", below))
                 told(f"at {words}", ("at", folder / "cell", *words), f"{height(cell, column, post)} column {column} post {post}\n")
 
 
@@ -62,7 +62,8 @@ def halves(folder):
         cell = filled(folder / "cell", second_writer.repeated(0, south, 7))
         post = 0 if south == 0 else 120
         line = f"{height(cell.read_bytes(), 60, post)} column 60 post {post}\n"
-        told(f"at {word}", ("at", cell, word, "7.5"), line if inside else "", "" if inside else f"dted: {cell}: {OFF_GRID}\n", int(not inside))
+        off = f"dted: {cell}: {OFF_GRID}\n"
+        told(f"at {word}", ("at", cell, word, "7.5"), *(line, "", 0) if inside else ("", off, 1))
     cell = second_writer.repeated(2, 89, 7)
     filled(folder / "cell", cell)
     for word, post in (("89.002375", 9), ("89.00237499999999999999999999", 8), ("89.0023750", 9), ("89:0:8.55", 9), ("89:0:8.5", 8)):
@@ -75,8 +76,9 @@ def wide(folder):
     nines = "9" * 100000
     for latitude in ("0" * 1000 + "46.5", "46.5" + "0" * 100000, f"46.4999{nines}", "46:30:00.00" + nines[:1000], "46:0030:00"):
         told("many digits", ("at", cell, latitude, "7.5E"), "486 column 60 post 60\n")
-    for latitude, longitude in ((nines, "7.5"), (f"-{nines}.5", "7.5"), ("46.5", f"{nines}:59:59.9W"), (str(2**64 + 46), "7.5"), (str(2**59 + 46), "7.5"),
-                                ("46.5", "367.5"), ("46.5", "-7.5"), ("7.5", "46.5"), ("91", "7"), ("47:00:00.1", "7.5"), ("46.5", "6.9999")):
+    for latitude, longitude in ((nines, "7.5"), (f"-{nines}.5", "7.5"), ("46.5", f"{nines}:59:59.9W"), (str(2**64 + 46), "7.5"),
+                                (str(2**59 + 46), "7.5"), ("46.5", "367.5"), ("46.5", "-7.5"), ("7.5", "46.5"), ("91", "7"),
+                                ("47:00:00.1", "7.5"), ("46.5", "6.9999")):
         told("off the grid", ("at", cell, latitude, longitude), errors=f"dted: {cell}: {OFF_GRID}\n", status=1)
     west = ROOT / "cells/west_180.dt0"
     told("180 by its other name", ("at", west, "0.5", "180E"), f"{height(west.read_bytes(), 0, 60)} column 0 post 60\n")

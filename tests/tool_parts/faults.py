@@ -35,7 +35,9 @@ def in_order(folder):
     """The new file is written and synced, then renamed, then the folder is synced: the disk never has a name without its bytes."""
     cell, log = filled(folder / "cell.dt0", second_writer.repeated(1, 89, 7)), fresh(folder, "log")
     told("set under strace", ("set", cell, 1, 2, 3), f"{cell}: column 1, post 2: -326, now 3\n",
-         under=strace(log, "-y", "-e", "trace=flock,read,fchown,fchmod,write,fsync,rename,unlink"))
+         under=strace(log, "-y", "-e", "trace=openat,flock,fchown,fchmod,write,fsync,rename,unlink"))
+    opened = [call for call in calls(log, "openat") if f'"{cell}"' in call]
+    same("opened for writing, so that a cell which may not be written is told", ["O_RDWR"], re.findall("O_RD[A-Z]*", "".join(opened)))
     made = calls(log, "flock|fchown|fchmod|write|fsync|rename|unlink")
     same("its calls", ["flock", "fchown", "fchmod", "write", "fsync", "rename", "fsync", "write"], [c.partition("(")[0] for c in made])
     same("what is synced", [True, True], [".cell.dt0.dted-" in made[4], f"<{folder}>" in made[6]] if len(made) == 8 else made)
@@ -48,7 +50,8 @@ def failures(folder):
     for inject, why in (("flock:error=ENOLCK", "No locks available"), ("fchmod:error=EROFS", "Read-only file system"),
                         ("fchown:error=EIO", "Input/output error"), ("fsync:error=EIO:when=1", "Input/output error"),
                         ("write:error=ENOSPC:when=1", "No space left on device"), ("rename:error=EACCES", "Permission denied")):
-        told(f"set where {inject}", ("set", cell, 1, 2, 3), errors=f"dted: {cell}: {why}\n", status=2, under=strace(log, "-e", f"inject={inject}"))
+        told(f"set where {inject}", ("set", cell, 1, 2, 3), errors=f"dted: {cell}: {why}\n", status=2,
+             under=strace(log, "-e", f"inject={inject}"))
         same("the old cell alone", (True, ["cell.dt0", "log"]), (cell.read_bytes() == data, named(folder)))
     told("set where the folder cannot be synced", ("set", cell, 1, 2, 3), errors=f"dted: {cell}: Input/output error\n", status=2,
          under=strace(log, "-e", "inject=fsync:error=EIO:when=2"))
@@ -80,9 +83,9 @@ def replaced(folder):
     data, log = stored("north_89.dt0")[0], fresh(folder, "log")
     cell = filled(folder / "cell.dt0", data)
     other = filled(folder / "other", with_height(data, 5, 5, 55))
-    slow = subprocess.Popen(command("set", cell, 1, 2, 3, under=strace(log, "-e", "inject=flock:delay_enter=500000:when=1")),
+    slow = subprocess.Popen(command("set", cell, 1, 2, 3, under=strace(log, "-e", "inject=flock:delay_enter=1000000:when=1")),
                             stdout=subprocess.PIPE)
-    time.sleep(0.25)
+    time.sleep(0.3)
     other.rename(cell)
     same("its line", f"{cell}: column 1, post 2: {height(data, 1, 2)}, now 3\n".encode(), slow.communicate()[0])
     same("both are kept", True, cell.read_bytes() == with_height(with_height(data, 5, 5, 55), 1, 2, 3))

@@ -90,9 +90,10 @@ def progress(folder, lines):
     for lines_too in (True, False):
         slowly(pipe)
         text, _ = on_terminal(("check", bad, missing, pipe, good), lines_too)
-        blanks = " " * len(" 0 of 4, 0 refused")
-        same("how far it has come, and that it is wiped", [f"\r {n} refused\r\r{blanks}\r" for n in ("0 of 4, 0", "3 of 4, 2")],
-             re.findall(r"\r \d.*refused\r(?:\r *\r)?", text))
+        seen = re.findall(r"\r( \d[^\r]*refused)\r(?:\r( *)\r)?", text)
+        same("how far it has come", [" 0 of 4, 0 refused", " 3 of 4, 2 refused"], [shown for shown, _ in seen[:1] + seen[-1:]])
+        before_lines = seen if lines_too else seen[-1:]
+        same("it is wiped", [" " * len(shown) for shown, _ in before_lines], [blanks for _, blanks in before_lines])
         same("what is seen in the end", rows if lines_too else [rows[1], ""], screen(text))
     text, seconds = on_terminal(("check", *lines), True)
     same("what is seen of 400 files", [line.rstrip() for line in lines.values()] + [""], screen(text))

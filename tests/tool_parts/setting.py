@@ -36,7 +36,8 @@ def refusals(folder):
     file = os.stat(cell).st_ino
     for column, post, word, why in ((0, 0, "9001", REFUSED), (0, 0, "-12001", REFUSED), (0, 0, "void", REFUSED), (0, 0, "-32767", REFUSED),
                                     (0, 0, str(2**63 - 1), REFUSED), (0, 0, str(-2**63), REFUSED), (0, 0, "65536", REFUSED),
-                                    (21, 0, "5", OFF_GRID), (0, 121, "5", OFF_GRID), (2**64 - 1, 0, "5", OFF_GRID), (21, 0, "9001", OFF_GRID)):
+                                    (21, 0, "5", OFF_GRID), (0, 121, "5", OFF_GRID), (2**64 - 1, 0, "5", OFF_GRID),
+                                    (21, 0, "9001", OFF_GRID)):
         told(f"set {column} {post} {word}", ("set", cell, column, post, word), errors=f"dted: {cell}: {why}\n", status=1)
     for word in ("", "x", "Void", "5m", "5.0", " 5", "- 5", "--5", "+", str(2**63), str(-2**63 - 1)):
         told(f"set to {word}", ("set", cell, 0, 0, word), errors=f"dted: {word}: neither whole metres nor void\n", status=2)
@@ -50,8 +51,8 @@ def stream():
     """From standard input to standard output, which gets the cell and nothing else."""
     data = stored("terrain.dt0")[0]
     told("set -", ("set", "-", 60, 60, 1234), with_height(data, 60, 60, 1234), input=data)
-    told("set - of a refused cell", ("set", "-", 60, 60, 1234), errors="dted: -: refused 3: a column is not there whole (offset 3428), column 0\n",
-         status=1, input=data[:3500])
+    told("set - of a refused cell", ("set", "-", 60, 60, 1234), status=1, input=data[:3500],
+         errors="dted: -: refused 3: a column is not there whole (offset 3428), column 0\n")
     told("set - refused", ("set", "-", 60, 60, 9001), errors=f"dted: -: {REFUSED}\n", status=1, input=data)
 
 
@@ -92,7 +93,8 @@ def no_files(folder):
     os.mkfifo(folder / "pipe")
     (folder / "nowhere").symlink_to("not there")
     for name, why in (("pipe", "not a regular file"), ("/dev/zero", "not a regular file"), (".", "Is a directory"),
-                      ("not there", "No such file or directory"), ("nowhere", "No such file or directory"), ("", "No such file or directory")):
+                      ("not there", "No such file or directory"), ("nowhere", "No such file or directory"),
+                      ("", "No such file or directory")):
         told(f"set of {name}", ("set", name, 1, 2, 3), errors=f"dted: {name}: {why}\n", status=2, cwd=folder)
     same("names", ["nowhere", "pipe"], named(folder))
 

@@ -70,7 +70,7 @@ def posts():
 
 def of_refused_cells(folder):
     """Nothing is told or drawn of a cell that check refuses, also of its good columns."""
-    bad, empty = ROOT / "cells/wrong_first_checksum.dt0", fresh(folder, "empty")
+    bad, empty = filled(folder / "bad.dt0", stored("wrong_first_checksum.dt0")[0]), fresh(folder, "empty")
     for words in (("info", bad), ("post", bad, 5, 5), ("at", bad, "0.5", "-179.5"), ("relief", bad, empty / "out.pgm"),
                   ("set", bad, 5, 5, 7)):
         told(f"{words[0]} of a refused cell", words, errors=f"dted: {bad}: {CHECKSUM}\n", status=1)
@@ -106,8 +106,8 @@ def relief(folder):
     with open(copy, "rb") as file:
         told("relief over standard input", ("relief", "-", copy), errors=f"dted: {copy}: this is the cell itself\n", status=2, stdin=file)
     same("the cell stays", terrain.read_bytes(), copy.read_bytes())
-    told("relief into no folder", ("relief", terrain, folder / "no/out.pgm"), errors=f"dted: {folder}/no/out.pgm: No such file or directory\n",
-         status=2)
+    told("relief into no folder", ("relief", terrain, folder / "no/out.pgm"), status=2,
+         errors=f"dted: {folder}/no/out.pgm: No such file or directory\n")
     told("relief on a full device", ("relief", terrain, "/dev/full"), errors="dted: /dev/full: No space left on device\n", status=2)
     for name in ("out.pgm", "copy.dt0", "link.pgm"):
         os.unlink(folder / name)
