@@ -5,8 +5,8 @@ import subprocess
 import threading
 
 from running import ROOT, filled, fresh, run, same, second_writer, stored, told
-from words import scope_fields
 
+RECORDS = {"UHL": 0, "DSI": 80, "ACC": 728}
 GOOD = "accepted, level 0, 21 columns of 121 posts"
 # the words of every number that a file can cause, the first cell that causes it, and where it is
 LINES = (("empty.dt0", "refused 1: fewer bytes than the headers have (length 0)"),
@@ -41,10 +41,19 @@ def stored_cells(intake):
     same("status of all", (b"", 1), (done.stderr, done.returncode))
 
 
+def scope_fields():
+    """The header fields of docs/SCOPE.md: offset, and record with positions."""
+    rows = re.findall(r"^\| H\d.*? \| (UHL|DSI|ACC) \| ([^|]*) \|", (ROOT / "docs/SCOPE.md").read_text(), re.M)
+    for record, spans in rows:
+        for positions in spans.split(", "):
+            yield RECORDS[record] + int(positions.split("-")[0]) - 1, f"{record} {positions}"
+
+
 def fields(folder):
     """Each header field broken by itself is named."""
     good = stored("north_89.dt0")[0]
-    for offset, _, name in scope_fields():
+    same("fields of the scope", 40, len(list(scope_fields())))
+    for offset, name in scope_fields():
         cell = filled(folder / "field", second_writer.with_byte(good, offset, ord("?")))
         line = run("check", cell).stdout.decode()
         same(name, f"{cell}: refused 2: a header field breaks its rule (offset {offset}: {name}", line.split(",")[0])
