@@ -70,7 +70,7 @@ static void on_signal(int number) {
 
 /* On a stack of its own: a call that uses up the stack is a fault like another. */
 static void catch_signals(void) {
-    static const int numbers[] = {SIGSEGV, SIGBUS, SIGILL, SIGFPE, SIGALRM, SIGABRT};
+    static const int numbers[] = {SIGSEGV, SIGBUS, SIGILL, SIGTRAP, SIGFPE, SIGALRM, SIGABRT};
     static uint8_t room[1 << 16];
     stack_t stack;
     struct sigaction action;
@@ -444,6 +444,7 @@ int main(int count, char **texts) {
     both_open();
     catch_signals();
     run_answer_cases();
+    run_word_cases();
     run_fixed_cases();
     run_literal_cases();
     for (uint64_t number = 0; number < cases; number++) {

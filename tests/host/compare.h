@@ -22,7 +22,8 @@ void run_fixed_cases(void);
 /* And those whose numbers are written out, over the stored cells. */
 void run_literal_cases(void);
 
-/* What the header takes out of answers. */
+/* What the header takes out of answers, and the words that dted_words.h has for them. */
 void run_answer_cases(void);
+void run_word_cases(void);
 
 #endif
