@@ -84,7 +84,7 @@ static uint8_t *room_for(size_t n) {
 }
 
 static void make_cell(void) {
-    uint64_t laid = dted_grid((uint64_t)items[DTED_LEVEL], items[DTED_LATITUDE]);
+    dted_answer laid = dted_grid((uint64_t)items[DTED_LEVEL], items[DTED_LATITUDE]);
     columns = dted_columns(laid);
     posts = dted_posts(laid);
     column_bytes = dted_column_length(laid);
@@ -96,7 +96,7 @@ static void make_cell(void) {
     for (size_t x = 0; x < columns; x++)
         for (size_t y = 0; y < posts; y++)
             dted_put_height(grid + 2 * (x * posts + y), formula((int)x, (int)y));
-    if (dted_write(cell, length, items, grid, bytes) != 0 || length != DTED_LONGEST_CELL)
+    if (dted_number(dted_write(cell, length, items, grid, bytes)) != DTED_OK || length != DTED_LONGEST_CELL)
         stop("the cell was not written");
     for (size_t i = 0; i < SET_COUNT; i++)
         edited[i] = memcpy(room_for(length), cell, length);
@@ -115,27 +115,27 @@ static void make_picks(void) {
 
 static uint64_t intake(const struct lap *lap, unsigned round) {
     (void)round;
-    return lap->with->intake(cell, length);
+    return lap->with->intake(cell, length).bits;
 }
 
 static uint64_t post(const struct lap *lap, unsigned round) {
     uint64_t sum = 0;
     (void)round;
     for (int i = 0; i < PICKS; i++)
-        sum += lap->with->post(cell, length, picks[i].column, picks[i].post);
+        sum += lap->with->post(cell, length, picks[i].column, picks[i].post).bits;
     return sum;
 }
 
 static uint64_t edit(const struct lap *lap, unsigned round) {
     uint64_t sum = 0;
     for (int i = 0; i < PICKS; i++)
-        sum += lap->with->edit(edited[lap->with - sets], length, picks[i].column, picks[i].post, picks[i].height - (int)round);
+        sum += lap->with->edit(edited[lap->with - sets], length, picks[i].column, picks[i].post, picks[i].height - (int)round).bits;
     return sum;
 }
 
 static uint64_t whole(const struct lap *lap, unsigned round) {
     (void)round;
-    return lap->with->write(out, length, items, grid, bytes);
+    return lap->with->write(out, length, items, grid, bytes).bits;
 }
 
 /* Intake that is refused early, again and again. */
@@ -143,7 +143,7 @@ static uint64_t early(const struct lap *lap, unsigned round) {
     uint64_t sum = 0;
     (void)round;
     for (int i = 0; i < PICKS; i++)
-        sum += lap->with->intake(cell, length);
+        sum += lap->with->intake(cell, length).bits;
     return sum;
 }
 

@@ -6,10 +6,10 @@
 
 struct calls {
     const char *name;
-    uint64_t (*intake)(const uint8_t *cell, size_t length);
-    uint64_t (*post)(const uint8_t *cell, size_t length, uint64_t column, uint64_t post);
-    uint64_t (*edit)(uint8_t *cell, size_t length, uint64_t column, uint64_t post, int64_t height);
-    uint64_t (*write)(uint8_t *out, size_t room, const int64_t *items, const uint8_t *grid, size_t bytes);
+    dted_answer (*intake)(const uint8_t *cell, size_t length);
+    dted_answer (*post)(const uint8_t *cell, size_t length, uint64_t column, uint64_t post);
+    dted_answer (*edit)(uint8_t *cell, size_t length, uint64_t column, uint64_t post, int64_t height);
+    dted_answer (*write)(uint8_t *out, size_t room, const int64_t *items, const uint8_t *grid, size_t bytes);
 };
 
 /* The next number of a row that its seed fixes; the seed is not 0. */

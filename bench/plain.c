@@ -1,6 +1,5 @@
 /* plain.c - see plain.h. Follows docs/SCOPE.md; the loops over posts have no early way out, so that a compiler makes vectors of them. */
 #include "plain.h"
-#include "dted.h"
 
 #include <arpa/inet.h>
 #include <stdbool.h>
@@ -25,7 +24,9 @@ const char *plain_compiler(void) {
 #endif
 }
 
-static uint64_t refuse(unsigned number, uint64_t place) { return (uint64_t)number << 56 | place; }
+static dted_answer refuse(unsigned number, uint64_t place) { return (dted_answer){(uint64_t)number << 56 | place}; }
+static dted_answer hold(unsigned what, uint64_t values) { return (dted_answer){(uint64_t)what << 48 | values}; }
+static dted_answer done(void) { return hold(DTED_HOLDS_NOTHING, 0); }
 
 /* ---- numbers, high byte first ---- */
 
@@ -202,7 +203,7 @@ static unsigned judge_acc(const uint8_t *h) {
     return has(h + 783, "00") ? GOOD : 783;
 }
 
-static uint64_t judge_headers(const uint8_t *h, size_t length, struct facts *f) {
+static dted_answer judge_headers(const uint8_t *h, size_t length, struct facts *f) {
     if (length < DTED_HEADER_BYTES)
         return refuse(DTED_SHORT, length);
     unsigned bad = judge_uhl(h, f);
@@ -214,7 +215,7 @@ static uint64_t judge_headers(const uint8_t *h, size_t length, struct facts *f) 
         bad = judge_counts(h, f);
     if (bad == GOOD)
         bad = judge_acc(h);
-    return bad == GOOD ? 0 : refuse(DTED_FIELD, bad);
+    return bad == GOOD ? done() : refuse(DTED_FIELD, bad);
 }
 
 /* ---- columns, judged ---- */
@@ -252,7 +253,7 @@ static size_t first_bad_word(const uint8_t *words, uint16_t pass) {
     return i;
 }
 
-static uint64_t judge_column(const uint8_t *cell, size_t length, const struct facts *f, unsigned number) {
+static dted_answer judge_column(const uint8_t *cell, size_t length, const struct facts *f, unsigned number) {
     size_t base = DTED_HEADER_BYTES + number * f->column_bytes, end = f->column_bytes - 4;
     const uint8_t *column = cell + base;
     uint16_t pass = f->voids ? 0xFFFF : 0;
@@ -270,42 +271,42 @@ static uint64_t judge_column(const uint8_t *cell, size_t length, const struct fa
         return refuse(DTED_CHECKSUM, base + end);
     if (any_bad_word(column + 8, f->posts, pass))
         return refuse(DTED_WORD, base + 8 + 2 * first_bad_word(column + 8, pass));
-    return 0;
+    return done();
 }
 
 /* ---- calls on a cell ---- */
 
-uint64_t plain_intake(const uint8_t *cell, size_t length) {
+dted_answer plain_intake(const uint8_t *cell, size_t length) {
     struct facts f;
-    uint64_t answer = judge_headers(cell, length, &f);
-    if (answer)
+    dted_answer answer = judge_headers(cell, length, &f);
+    if (dted_number(answer) != DTED_OK)
         return answer;
     for (unsigned k = 0; k < f.columns; k++)
-        if ((answer = judge_column(cell, length, &f, k)))
+        if (dted_number(answer = judge_column(cell, length, &f, k)) != DTED_OK)
             return answer;
     size_t due = DTED_HEADER_BYTES + f.columns * f.column_bytes;
     if (length > due)
         return refuse(DTED_SURPLUS, due);
-    return (uint64_t)f.level << 32 | (uint64_t)f.columns << 16 | f.posts;
+    return hold(DTED_HOLDS_GRID, (uint64_t)f.level << 32 | (uint64_t)f.columns << 16 | f.posts);
 }
 
 /* The headers, the post's place on the grid, and its column. */
-static uint64_t reach(const uint8_t *cell, size_t length, uint64_t column, uint64_t post, struct facts *f) {
-    uint64_t answer = judge_headers(cell, length, f);
-    if (answer)
+static dted_answer reach(const uint8_t *cell, size_t length, uint64_t column, uint64_t post, struct facts *f) {
+    dted_answer answer = judge_headers(cell, length, f);
+    if (dted_number(answer) != DTED_OK)
         return answer;
     if (column >= f->columns || post >= f->posts)
         return refuse(DTED_OFF_GRID, 0);
     return judge_column(cell, length, f, (unsigned)column);
 }
 
-uint64_t plain_post(const uint8_t *cell, size_t length, uint64_t column, uint64_t post) {
+dted_answer plain_post(const uint8_t *cell, size_t length, uint64_t column, uint64_t post) {
     struct facts f;
-    uint64_t answer = reach(cell, length, column, post, &f);
-    if (answer)
+    dted_answer answer = reach(cell, length, column, post, &f);
+    if (dted_number(answer) != DTED_OK)
         return answer;
     const uint8_t *word = cell + DTED_HEADER_BYTES + column * f.column_bytes + 8 + 2 * post;
-    return (uint64_t)dted_word_height(word) & 0xFFFF;
+    return hold(DTED_HOLDS_HEIGHT, (uint64_t)dted_word_height(word) & 0xFFFF);
 }
 
 static bool may_hold(int64_t height, bool voids) {
@@ -315,10 +316,10 @@ static bool may_hold(int64_t height, bool voids) {
 /* A void, too, is its sign and its magnitude. */
 static inline uint16_t word_of(int height) { return (uint16_t)(height < 0 ? 0x8000 | -height : height); }
 
-uint64_t plain_edit(uint8_t *cell, size_t length, uint64_t column, uint64_t post, int64_t height) {
+dted_answer plain_edit(uint8_t *cell, size_t length, uint64_t column, uint64_t post, int64_t height) {
     struct facts f;
-    uint64_t answer = reach(cell, length, column, post, &f);
-    if (answer)
+    dted_answer answer = reach(cell, length, column, post, &f);
+    if (dted_number(answer) != DTED_OK)
         return answer;
     if (!may_hold(height, f.voids))
         return refuse(DTED_HEIGHT, 0);
@@ -327,7 +328,7 @@ uint64_t plain_edit(uint8_t *cell, size_t length, uint64_t column, uint64_t post
     uint32_t rest = be32(check) - word[0] - word[1];
     put16(word, word_of((int)height));
     put32(check, rest + word[0] + word[1]);
-    return 0;
+    return done();
 }
 
 /* ---- headers, written ---- */
@@ -462,7 +463,7 @@ static void put_column(uint8_t *restrict out, const uint8_t *restrict grid, unsi
     put32(out + end, byte_sum(out, end));
 }
 
-uint64_t plain_write(uint8_t *out, size_t room, const int64_t *items, const uint8_t *grid, size_t bytes) {
+dted_answer plain_write(uint8_t *out, size_t room, const int64_t *items, const uint8_t *grid, size_t bytes) {
     struct facts f;
     unsigned item = bad_item(items);
     if (item)
@@ -481,5 +482,5 @@ uint64_t plain_write(uint8_t *out, size_t room, const int64_t *items, const uint
     put_headers(out, items, &f);
     for (unsigned k = 0; k < f.columns; k++)
         put_column(out + DTED_HEADER_BYTES + k * f.column_bytes, grid + 2 * (size_t)k * f.posts, f.posts, k);
-    return 0;
+    return done();
 }

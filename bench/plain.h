@@ -2,15 +2,14 @@
 #ifndef PLAIN_H
 #define PLAIN_H
 
-#include <stddef.h>
-#include <stdint.h>
+#include "dted.h"
 
 /* The calls, and the compiler that made them, under names that begin with a word of one's choice. */
 #define PLAIN_CALLS(who) \
-    uint64_t who##_intake(const uint8_t *cell, size_t length); \
-    uint64_t who##_post(const uint8_t *cell, size_t length, uint64_t column, uint64_t post); \
-    uint64_t who##_edit(uint8_t *cell, size_t length, uint64_t column, uint64_t post, int64_t height); \
-    uint64_t who##_write(uint8_t *out, size_t room, const int64_t *items, const uint8_t *grid, size_t bytes); \
+    dted_answer who##_intake(const uint8_t *cell, size_t length); \
+    dted_answer who##_post(const uint8_t *cell, size_t length, uint64_t column, uint64_t post); \
+    dted_answer who##_edit(uint8_t *cell, size_t length, uint64_t column, uint64_t post, int64_t height); \
+    dted_answer who##_write(uint8_t *out, size_t room, const int64_t *items, const uint8_t *grid, size_t bytes); \
     const char *who##_compiler(void)
 
 PLAIN_CALLS(plain);

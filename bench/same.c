@@ -24,11 +24,11 @@ static void differ(const char *what) {
     exit(1);
 }
 
-static void same(uint64_t a, uint64_t b, const char *what) {
+static void same(dted_answer a, dted_answer b, const char *what) {
     compared++;
-    if (a == b)
+    if (a.bits == b.bits)
         return;
-    fprintf(stderr, "%016" PRIx64 " %016" PRIx64 "\n", a, b);
+    fprintf(stderr, "%016" PRIx64 " %016" PRIx64 "\n", a.bits, b.bits);
     differ(what);
 }
 
@@ -85,7 +85,7 @@ static void same_write(size_t room, size_t bytes) {
 /* Makes a good small cell, by both. */
 static void make_small(int latitude) {
     some_items(latitude);
-    uint64_t laid = dted_grid(0, latitude);
+    dted_answer laid = dted_grid(0, latitude);
     columns = dted_columns(laid);
     column_bytes = dted_column_length(laid);
     length = dted_cell_length(laid);
@@ -193,7 +193,7 @@ static void compare_voids(uint8_t *spare, size_t bytes) {
 }
 
 static void compare_large(const uint8_t *cell, uint8_t *spare, size_t bytes) {
-    uint64_t answer = one->intake(cell, bytes);
+    dted_answer answer = one->intake(cell, bytes);
     same_intake(cell, bytes);
     for (int i = 0; i < TRIES / 10; i++)
         same_post(cell, bytes, below(dted_columns(answer)), below(dted_posts(answer)));

@@ -1,7 +1,6 @@
 /* both.c - each call made twice, of the library and of the second reader and writer, and compared. */
 #include "both.h"
 
-#include "dted.h"
 #include "second.h"
 
 #include <stdio.h>
@@ -47,10 +46,10 @@ void both_side(enum side side) {
 
 /* ---- comparing ---- */
 
-static uint64_t same_answer(const char *call, uint64_t library, uint64_t second) {
+static dted_answer same_answer(const char *call, dted_answer library, uint64_t second) {
     both_calling = "nothing";
-    if (library != second)
-        differ(call, "the answer", 0, library, second);
+    if (library.bits != second)
+        differ(call, "the answer", 0, library.bits, second);
     return library;
 }
 
@@ -95,19 +94,19 @@ static const uint8_t *cell_for_second(void) {
     return cell_is_null ? NULL : cell_copy.bytes;
 }
 
-uint64_t both_intake(void) {
+dted_answer both_intake(void) {
     const char *call = "dted_intake";
-    uint64_t answer = dted_intake(cell_to_read(call), cell_pages.length);
+    dted_answer answer = dted_intake(cell_to_read(call), cell_pages.length);
     return same_answer(call, answer, second_intake(cell_for_second(), cell_copy.length));
 }
 
-uint64_t both_describe(int64_t *items) {
+dted_answer both_describe(int64_t *items) {
     const char *call = "dted_describe";
     int64_t copy[BOTH_ITEMS];
     int64_t *lent = (int64_t *)(void *)lent_place(&item_pages, side_now, sizeof copy);
     for (int i = 0; i < BOTH_ITEMS; i++)
         lent[i] = copy[i] = -777000000000 - i;
-    uint64_t answer = dted_describe(cell_to_read(call), cell_pages.length, lent);
+    dted_answer answer = dted_describe(cell_to_read(call), cell_pages.length, lent);
     if (dted_number(answer) != DTED_OK)
         same_bytes(call, "an item of a refused call", item_pages.bytes, (uint8_t *)copy, sizeof copy);
     same_answer(call, answer, second_describe(cell_for_second(), cell_copy.length, copy));
@@ -119,23 +118,23 @@ uint64_t both_describe(int64_t *items) {
     return answer;
 }
 
-uint64_t both_post(uint64_t column, uint64_t post) {
+dted_answer both_post(uint64_t column, uint64_t post) {
     const char *call = "dted_post";
-    uint64_t answer = dted_post(cell_to_read(call), cell_pages.length, column, post);
+    dted_answer answer = dted_post(cell_to_read(call), cell_pages.length, column, post);
     return same_answer(call, answer, second_post(cell_for_second(), cell_copy.length, column, post));
 }
 
-uint64_t both_position(int64_t latitude, int64_t longitude) {
+dted_answer both_position(int64_t latitude, int64_t longitude) {
     const char *call = "dted_position";
-    uint64_t answer = dted_position(cell_to_read(call), cell_pages.length, latitude, longitude);
+    dted_answer answer = dted_position(cell_to_read(call), cell_pages.length, latitude, longitude);
     return same_answer(call, answer, second_position(cell_for_second(), cell_copy.length, latitude, longitude));
 }
 
-uint64_t both_edit(uint64_t column, uint64_t post, int64_t height) {
+dted_answer both_edit(uint64_t column, uint64_t post, int64_t height) {
     const char *call = "dted_edit";
     lent_protect(&cell_pages, false);
     both_calling = call;
-    uint64_t answer = dted_edit(cell_is_null ? NULL : cell_pages.bytes, cell_pages.length, column, post, height);
+    dted_answer answer = dted_edit(cell_is_null ? NULL : cell_pages.bytes, cell_pages.length, column, post, height);
     if (dted_number(answer) != DTED_OK)
         same_bytes(call, "a byte of a refused call", cell_pages.bytes, cell_copy.bytes, cell_copy.length);
     uint8_t *copy = cell_is_null ? NULL : cell_copy.bytes;
@@ -147,7 +146,7 @@ uint64_t both_edit(uint64_t column, uint64_t post, int64_t height) {
 
 /* ---- calls without a cell ---- */
 
-uint64_t both_grid(uint64_t level, int64_t latitude) {
+dted_answer both_grid(uint64_t level, int64_t latitude) {
     both_calling = "dted_grid";
     return same_answer("dted_grid", dted_grid(level, latitude), second_grid(level, latitude));
 }
@@ -170,7 +169,7 @@ static const uint8_t *lend_grid(const uint8_t *grid, size_t bytes) {
     return grid == NULL ? NULL : grid_pages.bytes;
 }
 
-static void same_before(const char *call, uint64_t answer) {
+static void same_before(const char *call, dted_answer answer) {
     if (dted_number(answer) != DTED_OK)
         same_bytes(call, "a byte of a refused call", out_pages.bytes, out_copy.bytes, out_copy.length);
 }
@@ -180,7 +179,7 @@ static void same_output(const char *call) {
     same_margin(call, &out_pages);
 }
 
-uint64_t both_write(size_t room, bool null_out, const int64_t *items, const uint8_t *grid, size_t bytes) {
+dted_answer both_write(size_t room, bool null_out, const int64_t *items, const uint8_t *grid, size_t bytes) {
     const char *call = "dted_write";
     uint8_t *out = lend_output(room, null_out);
     const uint8_t *lent_grid = lend_grid(grid, bytes);
@@ -188,19 +187,19 @@ uint64_t both_write(size_t room, bool null_out, const int64_t *items, const uint
     memcpy(lent_items, items, sizeof *items * BOTH_ITEMS);
     lent_protect(&item_pages, true);
     both_calling = call;
-    uint64_t answer = dted_write(out, room, lent_items, lent_grid, bytes);
+    dted_answer answer = dted_write(out, room, lent_items, lent_grid, bytes);
     same_before(call, answer);
     same_answer(call, answer, second_write(out == NULL ? NULL : out_copy.bytes, room, items, grid, bytes));
     same_output(call);
     return answer;
 }
 
-uint64_t both_write_column(size_t room, bool null_out, uint64_t level, uint64_t number, const uint8_t *posts, size_t bytes) {
+dted_answer both_write_column(size_t room, bool null_out, uint64_t level, uint64_t number, const uint8_t *posts, size_t bytes) {
     const char *call = "dted_write_column";
     uint8_t *out = lend_output(room, null_out);
     const uint8_t *lent_posts = lend_grid(posts, bytes);
     both_calling = call;
-    uint64_t answer = dted_write_column(out, room, level, number, lent_posts, bytes);
+    dted_answer answer = dted_write_column(out, room, level, number, lent_posts, bytes);
     same_before(call, answer);
     uint8_t *copy = out == NULL ? NULL : out_copy.bytes;
     same_answer(call, answer, second_write_column(copy, room, level, number, posts, bytes));

@@ -6,6 +6,7 @@
 #ifndef BOTH_H
 #define BOTH_H
 
+#include "dted.h"
 #include "lent.h"
 
 #define BOTH_ITEMS 13
@@ -31,16 +32,16 @@ void both_lend(const uint8_t *cell, size_t length);
 const uint8_t *both_cell(void);
 
 /* Each gives the library's answer. */
-uint64_t both_intake(void);
-uint64_t both_describe(int64_t *items);
-uint64_t both_post(uint64_t column, uint64_t post);
-uint64_t both_position(int64_t latitude, int64_t longitude);
-uint64_t both_edit(uint64_t column, uint64_t post, int64_t height);
-uint64_t both_grid(uint64_t level, int64_t latitude);
+dted_answer both_intake(void);
+dted_answer both_describe(int64_t *items);
+dted_answer both_post(uint64_t column, uint64_t post);
+dted_answer both_position(int64_t latitude, int64_t longitude);
+dted_answer both_edit(uint64_t column, uint64_t post, int64_t height);
+dted_answer both_grid(uint64_t level, int64_t latitude);
 
 /* An output of `room` bytes is lent, null where `null_out` and room is 0; what was written stands at both_out(). */
-uint64_t both_write(size_t room, bool null_out, const int64_t *items, const uint8_t *grid, size_t bytes);
-uint64_t both_write_column(size_t room, bool null_out, uint64_t level, uint64_t number, const uint8_t *posts, size_t bytes);
+dted_answer both_write(size_t room, bool null_out, const int64_t *items, const uint8_t *grid, size_t bytes);
+dted_answer both_write_column(size_t room, bool null_out, uint64_t level, uint64_t number, const uint8_t *posts, size_t bytes);
 const uint8_t *both_out(void);
 
 #endif

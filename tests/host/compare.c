@@ -58,6 +58,10 @@ void expect(const char *what, uint64_t library, uint64_t due) {
         printf("%s: %016" PRIX64 ", due is %016" PRIX64 "\n", what, library, due);
 }
 
+uint64_t refusal(uint64_t number, uint64_t place) {
+    return number << 56 | place;
+}
+
 static sigjmp_buf out_of_case;
 
 static void on_signal(int number) {
@@ -66,7 +70,7 @@ static void on_signal(int number) {
 
 /* On a stack of its own: a call that uses up the stack is a fault like another. */
 static void catch_signals(void) {
-    static const int numbers[] = {SIGSEGV, SIGBUS, SIGILL, SIGFPE, SIGALRM, SIGABRT};
+    static const int numbers[] = {SIGSEGV, SIGBUS, SIGILL, SIGTRAP, SIGFPE, SIGALRM, SIGABRT};
     static uint8_t room[1 << 16];
     stack_t stack;
     struct sigaction action;
@@ -168,7 +172,7 @@ static int64_t height_made(const struct cell *cell, uint64_t column, uint64_t po
 
 /* ---- cells, judged and read ---- */
 
-static void expect_whole(const struct cell *cell, uint64_t intake, const int64_t *items) {
+static void expect_whole(const struct cell *cell, dted_answer intake, const int64_t *items) {
     expect("intake: number", dted_number(intake), 0);
     expect("intake: level", dted_level(intake), (uint64_t)cell->items[DTED_LEVEL]);
     expect("intake: columns", dted_columns(intake), cell->columns);
@@ -180,14 +184,15 @@ static void expect_whole(const struct cell *cell, uint64_t intake, const int64_t
 
 static void look_up(struct random *random, const struct cell *cell) {
     for (int i = 0; i < 6; i++) {
-        uint64_t column = any_column(random, cell), post = any_post(random, cell), answer = both_post(column, post);
+        uint64_t column = any_column(random, cell), post = any_post(random, cell);
+        dted_answer answer = both_post(column, post);
         if (cell->whole && column < cell->columns && post < cell->posts)
             expect("post", dted_number(answer), 0);
         if (cell->whole && dted_number(answer) == 0)
             expect("a height as it was made", (uint64_t)dted_height(answer), (uint64_t)height_made(cell, column, post));
     }
     for (int i = 0; i < 8; i++) {
-        uint64_t answer = both_position(any_latitude(random, cell), any_longitude(random, cell));
+        dted_answer answer = both_position(any_latitude(random, cell), any_longitude(random, cell));
         if (cell->whole && dted_number(answer) == 0)
             expect("a nearest height as it was made", (uint64_t)dted_height(answer),
                    (uint64_t)height_made(cell, dted_position_column(answer), dted_position_post(answer)));
@@ -197,7 +202,7 @@ static void look_up(struct random *random, const struct cell *cell) {
 static void judge_and_read(struct random *random, const struct cell *cell) {
     int64_t items[CELL_ITEMS];
     both_lend(cell->bytes, cell->length);
-    uint64_t intake = both_intake();
+    dted_answer intake = both_intake();
     both_describe(items);
     if (cell->whole)
         expect_whole(cell, intake, items);
@@ -215,7 +220,7 @@ static void replace_bytes(struct random *random, struct cell *cell) {
         uint8_t kept = cell->bytes[at];
         cell->bytes[at] ^= (uint8_t)(1 + random_below(random, 255));
         both_lend(cell->bytes, cell->length);
-        uint64_t answer = both_intake();
+        dted_answer answer = both_intake();
         expect("a replaced byte is refused", dted_number(answer) != 0, 1);
         expect("in its column", start <= dted_place(answer) && dted_place(answer) < start + cell->column_bytes, 1);
         cell->bytes[at] = kept;
@@ -246,7 +251,7 @@ static void edit_often(struct random *random, struct cell *cell, int edits) {
         int64_t height = any_height(random);
         bool allowed = (height >= -12000 && height <= 9000) || (voids && height == DTED_VOID);
         uint64_t due = column >= cell->columns || post >= cell->posts ? 8 : allowed ? 0 : 11;
-        expect("edit", both_edit(column, post, height), due << 56);
+        expect("edit", both_edit(column, post, height).bits, refusal(due, 0));
         if (due == 0) {
             put_height(cell, column, post, height);
             expect("an edited height", (uint64_t)dted_height(both_post(column, post)), (uint64_t)height);
@@ -285,7 +290,7 @@ static size_t near_room(struct random *random, size_t due) {
 static void read_back(struct random *random, struct cell *cell) {
     int64_t items[CELL_ITEMS];
     both_lend(both_out(), cell->length);
-    uint64_t intake = both_intake();
+    dted_answer intake = both_intake();
     both_describe(items);
     expect_whole(cell, intake, items);
     look_up(random, cell);
@@ -298,7 +303,7 @@ static void read_back(struct random *random, struct cell *cell) {
     }
     if (cell->columns == 21 && random_one_in(random, 8))
         for (uint64_t i = 0; i < 21 * 121; i++) {
-            uint64_t answer = both_post(i / 121, i % 121);
+            dted_answer answer = both_post(i / 121, i % 121);
             expect("each height", (uint64_t)dted_height(answer), (uint64_t)height_made(cell, i / 121, i % 121));
         }
 }
@@ -319,7 +324,7 @@ static void write_any(struct random *random, struct cell *cell) {
         items[item] = random_odd_number(random, items[item]);
     }
     size_t room = near_room(random, cell->length), bytes = near_length(random, cell->grid_bytes);
-    uint64_t answer = both_write(room, random_one_in(random, 2), items, cell->grid, bytes);
+    dted_answer answer = both_write(room, random_one_in(random, 2), items, cell->grid, bytes);
     if (dted_number(answer) == 0 && memcmp(items, cell->items, sizeof items) == 0)
         read_back(random, cell);
 }
@@ -438,6 +443,8 @@ int main(int count, char **texts) {
     fflush(stdout);
     both_open();
     catch_signals();
+    run_answer_cases();
+    run_word_cases();
     run_fixed_cases();
     run_literal_cases();
     for (uint64_t number = 0; number < cases; number++) {

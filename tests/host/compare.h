@@ -13,10 +13,17 @@ void name_case(const char *format, ...);
 /* A difference to what the paper or the case's making says. */
 void expect(const char *what, uint64_t library, uint64_t due);
 
+/* The bits of a refusal. */
+uint64_t refusal(uint64_t number, uint64_t place);
+
 /* The cases that need no seed: the paper's examples, and every header byte and number in turn. */
 void run_fixed_cases(void);
 
 /* And those whose numbers are written out, over the stored cells. */
 void run_literal_cases(void);
+
+/* What the header takes out of answers, and the words that dted_words.h has for them. */
+void run_answer_cases(void);
+void run_word_cases(void);
 
 #endif

@@ -4,6 +4,7 @@
 #include "compare.h"
 #include "dted.h"
 
+#include <limits.h>
 #include <string.h>
 
 static struct cell cell;
@@ -20,10 +21,6 @@ static void make(int64_t level, int64_t latitude, int64_t longitude, int64_t par
     items[DTED_LONGITUDE] = longitude;
     items[DTED_PARTIAL] = partial;
     cell_make(&random, items, columns_made, &cell);
-}
-
-static uint64_t refusal(uint64_t number, uint64_t place) {
-    return number << 56 | place;
 }
 
 /* ---- the paper's examples ---- */
@@ -49,15 +46,15 @@ static const struct zone_example {
 static void zone_case(const void *context) {
     const struct zone_example *example = context;
     name_case("example %s", example->mark);
-    uint64_t grid = both_grid((uint64_t)example->level, example->latitude);
+    dted_answer grid = both_grid((uint64_t)example->level, example->latitude);
     expect("columns", dted_columns(grid), example->columns);
     expect("cell length", dted_cell_length(grid), example->length);
     make(example->level, example->latitude, 7, 0, SIZE_MAX);
-    expect("write", both_write(cell.length, false, cell.items, cell.grid, cell.grid_bytes), 0);
+    expect("write", both_write(cell.length, false, cell.items, cell.grid, cell.grid_bytes).bits, 0);
     expect("interval in the UHL", (uint64_t)memcmp(both_out() + 20, example->interval, 4), 0);
     expect("interval in the DSI", (uint64_t)memcmp(both_out() + 357, example->interval, 4), 0);
     both_lend(both_out(), cell.length);
-    expect("intake", both_intake(), grid);
+    expect("intake", both_intake().bits, grid.bits);
     expect("level", dted_level(grid), (uint64_t)example->level);
 }
 
@@ -93,13 +90,13 @@ static void word_case(const void *context) {
     cell.bytes[offset + 1] = example->low;
     cell_mend_checksum(&cell, 4);
     both_lend(cell.bytes, cell.length);
-    uint64_t answer = both_post(4, 17);
+    dted_answer answer = both_post(4, 17);
     expect("post", dted_number(answer), example->number);
     if (example->number == 0)
         expect("height", (uint64_t)dted_height(answer), (uint64_t)example->height);
     else
         expect("place", dted_place(answer), offset);
-    expect("intake", both_intake(), example->number == 0 ? both_grid(0, 89) : refusal(6, offset));
+    expect("intake", both_intake().bits, example->number == 0 ? both_grid(0, 89).bits : refusal(6, offset));
 }
 
 /* M9, M10, M11: zero words add nothing, so a column of one height and zeros has the sum of M9. */
@@ -107,16 +104,16 @@ static void checksum_case(const void *context) {
     (void)context;
     name_case("examples M9 to M11");
     uint8_t posts[2402] = {0x23, 0x28};
-    expect("write", both_write_column(254, false, 0, 0, posts, 242), 0);
+    expect("write", both_write_column(254, false, 0, 0, posts, 242).bits, 0);
     expect("M9", (uint64_t)memcmp(both_out() + 250, "\x00\x00\x00\xF5", 4), 0);
     make(0, 89, 7, 0, SIZE_MAX);
     memcpy(cell.bytes + 3428, both_out(), 254);
     both_lend(cell.bytes, cell.length);
-    expect("edit", both_edit(0, 0, -1), 0);
+    expect("edit", both_edit(0, 0, -1).bits, 0);
     expect("word", (uint64_t)memcmp(both_cell() + 3436, "\x80\x01", 2), 0);
     expect("M10", (uint64_t)memcmp(both_cell() + 3678, "\x00\x00\x01\x2B", 4), 0);
     memset(posts, 0, sizeof posts);
-    expect("write", both_write_column(2414, false, 1, 300, posts, sizeof posts), 0);
+    expect("write", both_write_column(2414, false, 1, 300, posts, sizeof posts).bits, 0);
     expect("M11", (uint64_t)memcmp(both_out() + 2410, "\x00\x00\x01\x04", 4), 0);
 }
 
@@ -125,7 +122,7 @@ static void nearest_case(const void *context) {
     name_case("example M12");
     make(1, 46, 7, 0, 3);
     both_lend(cell.bytes, cell.length);
-    uint64_t answer = both_position(46 * 36000 + 15, 7 * 36000 + 46);
+    dted_answer answer = both_position(46 * 36000 + 15, 7 * 36000 + 46);
     expect("number", dted_number(answer), 0);
     expect("column", dted_position_column(answer), 2);
     expect("post", dted_position_post(answer), 0);
@@ -137,20 +134,20 @@ static void length_case(const void *context) {
     name_case("short and long");
     make(0, 89, 7, 0, SIZE_MAX);
     both_lend(cell.bytes, 3427);
-    expect("3,427 bytes", both_intake(), refusal(1, 3427));
+    expect("3,427 bytes", both_intake().bits, refusal(1, 3427));
     both_lend(cell.bytes, 3428);
-    expect("3,428 bytes", both_intake(), refusal(3, 3428));
+    expect("3,428 bytes", both_intake().bits, refusal(3, 3428));
     both_lend(cell.bytes, 8761);
-    expect("one byte short", both_intake(), refusal(3, 3428 + 20 * 254));
+    expect("one byte short", both_intake().bits, refusal(3, 3428 + 20 * 254));
     both_lend(cell.bytes, 8762);
-    expect("whole", both_intake(), both_grid(0, 89));
+    expect("whole", both_intake().bits, both_grid(0, 89).bits);
     uint8_t longer[8763] = {0};
     memcpy(longer, cell.bytes, 8762);
     both_lend(longer, 8763);
-    expect("one byte long", both_intake(), refusal(7, 8762));
+    expect("one byte long", both_intake().bits, refusal(7, 8762));
     longer[3681] ^= 1;
     both_lend(longer, 8762);
-    expect("a wrong first checksum", both_intake(), refusal(5, 3678));
+    expect("a wrong first checksum", both_intake().bits, refusal(5, 3678));
 }
 
 /* Cut after each of its bytes, and with two bytes more. */
@@ -165,8 +162,8 @@ static void every_length_case(const void *context) {
         uint64_t due = length < 3428   ? refusal(1, length)
                        : length < 8762 ? refusal(3, length - (length - 3428) % 254)
                        : length > 8762 ? refusal(7, 8762)
-                                       : both_grid(0, 89);
-        expect("intake", both_intake(), due);
+                                       : both_grid(0, 89).bits;
+        expect("intake", both_intake().bits, due);
         both_post(length % 21, length % 121);
         if (length % 16 == 0)
             both_edit(length % 21, length % 121, 5);
@@ -183,7 +180,7 @@ static void every_byte_case(const void *context) {
         uint8_t kept = cell.bytes[at];
         cell.bytes[at] ^= (uint8_t)(1 + at * 37 % 255);
         both_lend(cell.bytes, cell.length);
-        uint64_t answer = both_intake();
+        dted_answer answer = both_intake();
         expect("refused", dted_number(answer) != 0, 1);
         expect("in its column", start <= dted_place(answer) && dted_place(answer) < start + 254, 1);
         cell.bytes[at] = kept;
@@ -198,21 +195,22 @@ static void meridian_case(const void *context) {
         make(0, 89, -180, 0, SIZE_MAX);
         both_lend(cell.bytes, cell.length);
         expect("west edge", dted_position_column(both_position(89 * 36000, name * 6480000)), 0);
-        expect("past the west edge", both_position(89 * 36000, name * 6480001), refusal(8, 0));
+        expect("past the west edge", both_position(89 * 36000, name * 6480001).bits, refusal(8, 0));
         make(0, 89, 179, 0, SIZE_MAX);
         both_lend(cell.bytes, cell.length);
         expect("east edge", dted_position_column(both_position(90 * 36000, name * 6480000)), 20);
-        expect("past the east edge", both_position(90 * 36000, name * 6480001), refusal(8, 0));
+        expect("past the east edge", both_position(90 * 36000, name * 6480001).bits, refusal(8, 0));
         make(0, 89, 0, 0, SIZE_MAX);
         both_lend(cell.bytes, cell.length);
-        expect("another cell", both_position(90 * 36000, name * 6480000), refusal(8, 0));
+        expect("another cell", both_position(90 * 36000, name * 6480000).bits, refusal(8, 0));
     }
 }
 
-/* The header's own functions: each word and each height, and answers that are refusals. */
-static void header_functions_case(const void *context) {
+/* Each word and each height in bytes, by the header's functions, and heights of more than 16 bits. */
+static void words_and_heights_case(const void *context) {
+    static const int too_large[] = {32768, -32769, 65536, -65536, 65537, 98303, INT_MAX, INT_MIN};
     (void)context;
-    name_case("functions of the header");
+    name_case("words and heights in bytes");
     for (int magnitude = 0; magnitude < 0x8000; magnitude++) {
         uint8_t word[2] = {(uint8_t)(magnitude / 256), (uint8_t)(magnitude % 256)};
         expect("a height of a word", (uint64_t)dted_word_height(word), (uint64_t)magnitude);
@@ -223,12 +221,11 @@ static void header_functions_case(const void *context) {
         dted_put_height(down, -magnitude);
         expect("a height in a grid", up[0] * 256u + up[1], (uint64_t)magnitude);
         expect("a depth in a grid", down[0] * 256u + down[1], (uint64_t)(0x10000 - magnitude) % 0x10000);
-        expect("a depth in an answer", (uint64_t)dted_height(down[0] * 256u + down[1]), (uint64_t)-magnitude);
     }
-    for (uint64_t number = 1; number <= 12; number++) {
-        expect("a refusal's number", dted_number(refusal(number, 3678)), number);
-        expect("a refusal's place", dted_place(refusal(number, 25981042)), 25981042);
-        expect("a refusal is no height", (uint64_t)dted_height(refusal(number, 3678)), (uint64_t)DTED_VOID);
+    for (size_t i = 0; i < COUNT(too_large); i++) {
+        uint8_t bytes[2] = {1, 2};
+        dted_put_height(bytes, too_large[i]);
+        expect("a height of more than 16 bits", bytes[0] * 256u + bytes[1], 0x8000);
     }
 }
 
@@ -297,20 +294,20 @@ static void null_case(const void *context) {
     uint8_t posts[242] = {0};
     name_case("null with length 0");
     both_lend(NULL, 0);
-    expect("intake", both_intake(), refusal(1, 0));
-    expect("describe", both_describe(items), refusal(1, 0));
-    expect("post", both_post(0, 0), refusal(1, 0));
-    expect("position", both_position(0, 0), refusal(1, 0));
-    expect("edit", both_edit(0, 0, 0), refusal(1, 0));
+    expect("intake", both_intake().bits, refusal(1, 0));
+    expect("describe", both_describe(items).bits, refusal(1, 0));
+    expect("post", both_post(0, 0).bits, refusal(1, 0));
+    expect("position", both_position(0, 0).bits, refusal(1, 0));
+    expect("edit", both_edit(0, 0, 0).bits, refusal(1, 0));
     make(0, 89, 7, 0, SIZE_MAX);
-    expect("write, no grid", both_write(cell.length, false, cell.items, NULL, 0), refusal(10, 21 * 121));
-    expect("write, no room", both_write(0, true, cell.items, cell.grid, cell.grid_bytes), refusal(12, 8762));
-    expect("write, neither", both_write(0, true, cell.items, NULL, 0), refusal(10, 21 * 121));
-    expect("column, no posts", both_write_column(254, false, 0, 0, NULL, 0), refusal(10, 121));
-    expect("column, no room", both_write_column(0, true, 0, 0, posts, 242), refusal(12, 254));
-    expect("column, neither", both_write_column(0, true, 0, 0, NULL, 0), refusal(10, 121));
+    expect("write, no grid", both_write(cell.length, false, cell.items, NULL, 0).bits, refusal(10, 21 * 121));
+    expect("write, no room", both_write(0, true, cell.items, cell.grid, cell.grid_bytes).bits, refusal(12, 8762));
+    expect("write, neither", both_write(0, true, cell.items, NULL, 0).bits, refusal(10, 21 * 121));
+    expect("column, no posts", both_write_column(254, false, 0, 0, NULL, 0).bits, refusal(10, 121));
+    expect("column, no room", both_write_column(0, true, 0, 0, posts, 242).bits, refusal(12, 254));
+    expect("column, neither", both_write_column(0, true, 0, 0, NULL, 0).bits, refusal(10, 121));
     both_lend(cell.bytes, 0);
-    expect("no bytes", both_intake(), refusal(1, 0));
+    expect("no bytes", both_intake().bits, refusal(1, 0));
 }
 
 static void grid_case(const void *context) {
@@ -344,8 +341,8 @@ static void item_case(const void *context) {
     for (size_t other = 0; other < CELL_ITEMS; other++) {
         int64_t kept = items[other];
         items[other] = INT64_MAX;
-        uint64_t answer = both_write(3, false, items, cell.grid, 5);
-        expect("lowest item", answer, refusal(9, (other < item ? other : item) + 1));
+        dted_answer answer = both_write(3, false, items, cell.grid, 5);
+        expect("lowest item", answer.bits, refusal(9, (other < item ? other : item) + 1));
         items[other] = kept;
     }
 }
@@ -452,7 +449,7 @@ static void run_examples(void) {
     run_case(every_length_case, NULL);
     run_case(every_byte_case, NULL);
     run_case(meridian_case, NULL);
-    run_case(header_functions_case, NULL);
+    run_case(words_and_heights_case, NULL);
 }
 
 void run_fixed_cases(void) {

@@ -91,7 +91,7 @@ static void call_on_cell(unsigned call, const uint64_t *numbers, int64_t height,
     int64_t items[CELL_ITEMS];
     uint64_t column = near ? numbers[0] % 62 : numbers[0], post = near ? numbers[1] % 122 : numbers[1];
     int64_t latitude = signed_of(numbers[0]), longitude = signed_of(numbers[1]);
-    if (near && both_describe(items) == DTED_OK) {
+    if (near && dted_number(both_describe(items)) == DTED_OK) {
         latitude = items[DTED_LATITUDE] * 36000 + latitude % 36001;
         longitude = items[DTED_LONGITUDE] * 36000 + longitude % 36001;
     }

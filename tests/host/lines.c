@@ -46,7 +46,7 @@ static void print_line(const char *name) {
     uint64_t answer = second_intake(bytes, length);
     unsigned number = (unsigned)(answer >> 56);
     if (number == 0)
-        printf("accepted %u %u %u\n", (unsigned)(answer >> 32), (unsigned)(answer >> 16 & 0xFFFF), (unsigned)(answer & 0xFFFF));
+        printf("accepted %u %u %u\n", (unsigned)(answer >> 32 & 0xFFFF), (unsigned)(answer >> 16 & 0xFFFF), (unsigned)(answer & 0xFFFF));
     else
         printf("refused %u %" PRIu64 "\n", number, answer & UINT64_C(0xFFFFFFFFFFFFFF));
     free(bytes);

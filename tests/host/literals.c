@@ -1,4 +1,5 @@
 /* literals.c - cases whose numbers are written out, over the stored cells, which neither writer of these tests has made. */
+#include "bare.h"
 #include "both.h"
 #include "compare.h"
 #include "dted.h"
@@ -12,10 +13,6 @@
 
 static uint8_t cell[40000];
 static size_t cell_length;
-
-static uint64_t refusal(uint64_t number, uint64_t place) {
-    return number << 56 | place;
-}
 
 /* A stored cell; the folder is given when this is compiled. */
 static void read_stored(const char *name) {
@@ -46,7 +43,7 @@ static void zone_case(const void *context) {
     name_case("zone from %d", zone->first);
     for (size_t i = 0; i < COUNT(latitudes); i++)
         for (uint64_t level = 0; level < 3; level++)
-            expect("grid", both_grid(level, latitudes[i]), level << 32 | zone->columns[level] << 16 | posts[level]);
+            expect("grid", both_grid(level, latitudes[i]).bits, UINT64_C(1) << 48 | level << 32 | zone->columns[level] << 16 | posts[level]);
 }
 
 /* ---- the items and their places ---- */
@@ -96,12 +93,12 @@ static void items_case(const void *context) {
     name_case("items of %s", stored->name);
     read_stored(stored->name);
     both_lend(cell, cell_length);
-    expect("describe", both_describe(items), 0);
+    expect("describe", both_describe(items).bits, 0);
     for (size_t i = 0; i < ITEMS; i++)
         expect("item", (uint64_t)items[i], (uint64_t)stored->items[i]);
     size_t bytes = own_heights(stored, grid), length = HEADERS + stored->columns * (12 + 2 * stored->posts);
     expect("the stored cell's length", cell_length == length || cell_length == HEADERS, 1);
-    expect("write", both_write(length, false, stored->items, grid, bytes), 0);
+    expect("write", both_write(length, false, stored->items, grid, bytes).bits, 0);
     expect("the stored bytes", (uint64_t)memcmp(both_out(), cell, cell_length), 0);
 }
 
@@ -134,7 +131,7 @@ static void range_case(const void *context) {
     memcpy(items, stored_items[0].items, sizeof items);
     for (size_t i = 0; i < range->outsides; i++) {
         items[item] = range->outside[i];
-        expect("outside", both_write(100, false, items, NULL, 0), refusal(9, item + 1));
+        expect("outside", both_write(100, false, items, NULL, 0).bits, refusal(9, item + 1));
     }
     for (size_t i = 0; i < range->end_count; i++) {
         items[item] = range->ends[i];
@@ -180,15 +177,72 @@ static void field_text_case(const void *context) {
     name_case("%s with '%s' at %zu", field->name, field->text, field->at);
     read_stored(field->name);
     both_lend(cell, cell_length);
-    uint64_t whole = both_intake();
-    expect("as stored, the headers are good", both_describe(items), 0);
+    dted_answer whole = both_intake();
+    expect("as stored, the headers are good", both_describe(items).bits, 0);
     memcpy(cell + field->at, field->text, strlen(field->text));
     both_lend(cell, cell_length);
-    expect("describe", both_describe(items), field->refused ? refusal(2, field->at) : 0);
-    expect("intake", both_intake(), field->refused ? refusal(2, field->at) : whole);
+    expect("describe", both_describe(items).bits, field->refused ? refusal(2, field->at) : 0);
+    expect("intake", both_intake().bits, field->refused ? refusal(2, field->at) : whole.bits);
+}
+
+/* ---- every call, as the header and as the archive declares it ---- */
+
+static void twice(const char *what, dted_answer by_header, uint64_t bare, uint64_t due) {
+    expect(what, by_header.bits, due);
+    expect(what, bare, due);
+}
+
+static void reading_calls_case(const void *context) {
+    int64_t items[ITEMS];
+    (void)context;
+    name_case("answers as numbers, of a cell");
+    read_stored("terrain.dt0");
+    twice("intake", dted_intake(cell, cell_length), bare_intake(cell, cell_length), 0x0001000000790079);
+    twice("intake, refused", dted_intake(cell, 17), bare_intake(cell, 17), refusal(1, 17));
+    twice("describe", dted_describe(cell, cell_length, items), bare_describe(cell, cell_length, items), 0);
+    twice("describe, refused", dted_describe(cell, 17, items), bare_describe(cell, 17, items), refusal(1, 17));
+    twice("post", dted_post(cell, cell_length, 60, 60), bare_post(cell, cell_length, 60, 60), 0x00020000000001E6);
+    twice("post, refused", dted_post(cell, cell_length, 121, 0), bare_post(cell, cell_length, 121, 0), refusal(8, 0));
+    twice("position", dted_position(cell, cell_length, 1674000, 270000), bare_position(cell, cell_length, 1674000, 270000),
+          0x0003003C003C01E6);
+    twice("position, refused", dted_position(cell, cell_length, 0, 0), bare_position(cell, cell_length, 0, 0), refusal(8, 0));
+    twice("edit", dted_edit(cell, cell_length, 60, 60, -1), bare_edit(cell, cell_length, 60, 60, -1), 0);
+    twice("edited", dted_post(cell, cell_length, 60, 60), bare_post(cell, cell_length, 60, 60), 0x000200000000FFFF);
+    twice("edit, refused", dted_edit(cell, cell_length, 60, 60, 9001), bare_edit(cell, cell_length, 60, 60, 9001), refusal(11, 0));
+}
+
+static void writing_calls_case(const void *context) {
+    static const uint8_t grid[2 * 21 * 121];
+    static const int64_t items[ITEMS] = {0, 89, 7, 'U', 1, 'A', 1, -1, -1, -1, -1, -1, 0};
+    static uint8_t out[8762];
+    size_t bytes = sizeof grid, room = sizeof out;
+    (void)context;
+    name_case("answers as numbers, of the writers");
+    twice("grid", dted_grid(2, 0), bare_grid(2, 0), 0x000100020E110E11);
+    twice("grid, refused", dted_grid(3, 0), bare_grid(3, 0), refusal(9, 1));
+    twice("write", dted_write(out, room, items, grid, bytes), bare_write(out, room, items, grid, bytes), 0);
+    twice("write, refused", dted_write(out, 17, items, grid, bytes), bare_write(out, 17, items, grid, bytes), refusal(12, 8762));
+    twice("column", dted_write_column(out, room, 0, 0, grid, 242), bare_write_column(out, room, 0, 0, grid, 242), 0);
+    twice("column, refused", dted_write_column(out, room, 0, 0, grid, 3), bare_write_column(out, room, 0, 0, grid, 3),
+          refusal(10, 121));
+}
+
+/* ---- the version ---- */
+
+/* The file's version is given when this is compiled. */
+static void version_case(const void *context) {
+    char parts[32];
+    (void)context;
+    name_case("the version");
+    snprintf(parts, sizeof parts, "%d.%d.%d", DTED_VERSION_MAJOR, DTED_VERSION_MINOR, DTED_VERSION_PATCH);
+    expect("the version as the file has it", (uint64_t)strcmp(DTED_VERSION, VERSION), 0);
+    expect("its parts", (uint64_t)strcmp(parts, VERSION), 0);
 }
 
 void run_literal_cases(void) {
+    run_case(reading_calls_case, NULL);
+    run_case(writing_calls_case, NULL);
+    run_case(version_case, NULL);
     for (int side = 0; side < 2; side++) {
         both_side(side == 0 ? AT_START : AT_END);
         run_case(names_case, NULL);

@@ -26,8 +26,11 @@ static bool is_refused(uint64_t answer) {
     return answer >= (uint64_t)1 << 56;
 }
 
-static uint64_t three(uint64_t high, uint64_t middle, int low) {
-    return high * 0x100000000u + middle * 0x10000u + (uint16_t)low;
+/* What an accepted answer holds; one that holds nothing is 0. */
+enum holds { GRID = 1, HEIGHT = 2, POSITION = 3 };
+
+static uint64_t three(enum holds what, uint64_t high, uint64_t middle, int low) {
+    return what * 0x1000000000000u + high * 0x100000000u + middle * 0x10000u + (uint16_t)low;
 }
 
 /* ---- levels and zones: the paper's tables ---- */
@@ -377,7 +380,7 @@ uint64_t second_intake(const uint8_t *cell, size_t length) {
     if (is_refused(answer))
         return answer;
     size_t due = HEADERS + (size_t)r.columns * r.column_bytes;
-    return length > due ? refused(7, due) : three((uint64_t)r.level, (uint64_t)r.columns, r.posts);
+    return length > due ? refused(7, due) : three(GRID, (uint64_t)r.level, (uint64_t)r.columns, r.posts);
 }
 
 uint64_t second_describe(const uint8_t *cell, size_t length, int64_t *items) {
@@ -412,7 +415,7 @@ static int height_at(const uint8_t *cell, const struct reading *r, uint64_t colu
 uint64_t second_post(const uint8_t *cell, size_t length, uint64_t column, uint64_t post) {
     struct reading r;
     uint64_t answer = judge_post(cell, length, column, post, &r);
-    return is_refused(answer) ? answer : three(0, 0, height_at(cell, &r, column, post));
+    return is_refused(answer) ? answer : three(HEIGHT, 0, 0, height_at(cell, &r, column, post));
 }
 
 /* The nearest of `count` marks from `first` on, each `step` further; the earlier of two equally near. */
@@ -447,7 +450,7 @@ uint64_t second_position(const uint8_t *cell, size_t length, int64_t latitude, i
     uint64_t column = nearest(longitude, (int64_t)r.longitude * DEGREE, r.longitude_interval, r.columns);
     uint64_t post = nearest(latitude, (int64_t)r.latitude * DEGREE, r.latitude_interval, r.posts);
     answer = judge_column(cell, length, &r, (size_t)column);
-    return is_refused(answer) ? answer : three(column, post, height_at(cell, &r, column, post));
+    return is_refused(answer) ? answer : three(POSITION, column, post, height_at(cell, &r, column, post));
 }
 
 /* An edit reads the whole column, changes one height of it, and makes the column afresh. */
@@ -473,7 +476,7 @@ uint64_t second_grid(uint64_t level, int64_t latitude) {
         return refused(9, 1);
     if (latitude < -90 || latitude > 89)
         return refused(9, 2);
-    return three(level, (uint64_t)zone_of((int)latitude)->columns[level], posts_of_level[level]);
+    return three(GRID, level, (uint64_t)zone_of((int)latitude)->columns[level], posts_of_level[level]);
 }
 
 static bool in_range(int64_t value, int64_t least, int64_t most) {

@@ -1,8 +1,8 @@
 /* second.h - an independent second reader and writer of DTED cells, to be compared with the proved one.
  *
- * Each call takes the same numbers and bytes as the call of that name in dted.h, and gives the same packed answer: the refusal's
- * number in the top 8 bits, its place or the call's value below. Nothing here is shared with the library, not even constants:
- * a slip in one is meant to show against the other.
+ * Each call takes the same numbers and bytes as the call of that name in dted.h, and gives the same 64 bits: a refusal's
+ * number in the top 8 and its place in the other 56; else 0 on top, what the answer holds in the next 8, and values in parts of 16.
+ * Nothing here is shared with the library, not even constants: a slip in one is meant to show against the other.
  */
 #ifndef SECOND_H
 #define SECOND_H

@@ -59,7 +59,7 @@ static void write_file(const char *path, struct bytes whole) {
 /* ---- answers ---- */
 
 /* Prints a refusal; 1 where there was one. */
-static int refused(uint64_t answer) {
+static int refused(dted_answer answer) {
     if (dted_number(answer) == DTED_OK)
         return 0;
     printf("refused %u %" PRIu64 "\n", dted_number(answer), dted_place(answer));
@@ -99,7 +99,7 @@ static void items_of(uint32_t seed, int64_t *items) {
     items[DTED_PARTIAL] = seed % 2 == 0 ? 0 : 1 + seed * 11 % 99;
 }
 
-static struct bytes grid_of(uint32_t seed, int partial, uint64_t size) {
+static struct bytes grid_of(uint32_t seed, int partial, dted_answer size) {
     struct bytes grid = room_for(2 * (size_t)dted_columns(size) * dted_posts(size));
     uint8_t *next = grid.at;
     for (uint32_t column = 0; column < dted_columns(size); column++)
@@ -117,7 +117,7 @@ static int write_cell(char **given) {
     items[DTED_LEVEL] = atoi(given[0]);
     items[DTED_LATITUDE] = atoi(given[1]);
     items[DTED_LONGITUDE] = atoi(given[2]);
-    uint64_t size = dted_grid((uint64_t)items[DTED_LEVEL], items[DTED_LATITUDE]);
+    dted_answer size = dted_grid((uint64_t)items[DTED_LEVEL], items[DTED_LATITUDE]);
     if (refused(size))
         return 1;
     struct bytes grid = grid_of(seed, items[DTED_PARTIAL] != 0, size);
@@ -136,7 +136,7 @@ static void put(int height) {
 
 static int posts(const char *path) {
     struct bytes cell = read_file(path);
-    uint64_t size = dted_intake(cell.at, cell.length);
+    dted_answer size = dted_intake(cell.at, cell.length);
     if (refused(size))
         return 1;
     for (unsigned column = 0; column < dted_columns(size); column++) {
@@ -149,12 +149,12 @@ static int posts(const char *path) {
 
 static int lookups(const char *path, unsigned every) {
     struct bytes cell = read_file(path);
-    uint64_t size = dted_intake(cell.at, cell.length);
+    dted_answer size = dted_intake(cell.at, cell.length);
     if (refused(size))
         return 1;
     for (unsigned column = 0; column < dted_columns(size); column += every)
         for (unsigned post = 0; post < dted_posts(size); post++) {
-            uint64_t answer = dted_post(cell.at, cell.length, column, post);
+            dted_answer answer = dted_post(cell.at, cell.length, column, post);
             if (refused(answer))
                 return 1;
             put(dted_height(answer));
@@ -164,7 +164,7 @@ static int lookups(const char *path, unsigned every) {
 
 static int judge(const char *path) {
     struct bytes cell = read_file(path);
-    uint64_t size = dted_intake(cell.at, cell.length);
+    dted_answer size = dted_intake(cell.at, cell.length);
     if (refused(size))
         return 1;
     printf("accepted %u %u %u\n", dted_level(size), dted_columns(size), dted_posts(size));
@@ -186,7 +186,7 @@ static int position(const char *path) {
     int64_t latitude, longitude;
     int any = 0;
     while (scanf("%" SCNd64 " %" SCNd64, &latitude, &longitude) == 2) {
-        uint64_t answer = dted_position(cell.at, cell.length, latitude, longitude);
+        dted_answer answer = dted_position(cell.at, cell.length, latitude, longitude);
         if (refused(answer))
             any = 1;
         else
