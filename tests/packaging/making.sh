@@ -2,8 +2,8 @@
 # shellcheck shell=bash disable=SC2016,SC2154
 tree=$work/empty/dted-$version
 
-# A stand-in that notes what it is asked, prints as rt does, and makes the archive or the program: with PROVED=yes no program, since
-# rt leaves what it has proved before, and with FAILING=yes it fails after that.
+# A stand-in that notes what it is asked, prints as rt does, and makes the archive or the program. With PROVED=yes it makes nothing,
+# as rt leaves a program that it has proved before; with FAILING=yes it fails after that.
 mkdir -p "$work/bin"
 cat >"$work/bin/rt" <<END
 #!/bin/sh
@@ -72,7 +72,7 @@ bad 'run after a slip' 'sums.rt:7:19: error: a slip' in_tree env FAILING=yes mak
 same 'run after a slip, where all of it is' 1 "$(grep -cF 'is in target/log/rt-check-intake.log' "$work/said")"
 asks 'run after the slip is put right' 'check intake' make -s run
 edit crates/octets/src/lib.rt
-bad 'install after a slip' 'rt staticlib dted ended in 3' in_tree env FAILING=yes make install DESTDIR="$stage"
+bad 'install after a slip' 'rt staticlib dted ended in 3' in_tree env FAILING=yes make install DESTDIR="$stage" PREFIX="$prefix"
 same 'the status of rt' 3 "$(in_tree env FAILING=yes tools/prove check intake 2>/dev/null || echo $?)"
 
 # ---- other archives, by their bytes ----
@@ -91,7 +91,7 @@ good 'the tool, of another archive' in_tree make tool shared ARCHIVE="$work/othe
 good 'an older archive is linked' [ "$before" != "$(linked)" ]
 same 'of its names one is seen from outside' dted_none "$(names "$tree/target/shared/libdted.so" -D --defined-only | grep none)"
 edit crates/octets/src/lib.rt
-good 'install of that archive' in_tree make install DESTDIR="$stage" ARCHIVE="$work/other.a"
+good 'install of that archive' in_tree make install DESTDIR="$stage" PREFIX="$prefix" ARCHIVE="$work/other.a"
 same 'a program that is older than its sources' 1 "$(grep -cF 'dted-intake is left out' "$work/log")"
 same 'install of that archive: what rt is asked' '' "$asked"
 rm -rf "$stage"

@@ -8,8 +8,8 @@ without_kit() { # FOLDER COMMAND..
     (cd "$1" && env -i PATH="$bare" CC="$cc" "${@:2}")
 }
 mkdir "$bare"
-for tool in as awk bash cat cmp cp dirname echo env find grep gzip install ld ln make mkdir pkg-config realpath rm sed sh sha256sum \
-    tac tar uname xargs "$cc"; do
+for tool in as awk bash cat cmp cp dirname echo env find grep gzip install ld ln make mkdir pkg-config realpath rm sed sh \
+    sha256sum tac tar uname xargs "$cc"; do
     ln -s "$(type -P "$tool")" "$bare"
 done
 
@@ -48,8 +48,8 @@ good 'it installs elsewhere' without_kit "$fresh" ./install "$work/second"
 rm -rf "$work/first"
 # shellcheck disable=SC2046
 good "the README's example, from elsewhere" without_kit "$work" "$cc" readme.c $(flags "$work/second") -o readme
-good 'it installs below DESTDIR' without_kit "$fresh" env DESTDIR="$work/staged" ./install /usr
-same 'dted.pc below DESTDIR' 'prefix=/usr' "$(head -n 1 "$work/staged/usr/lib/pkgconfig/dted.pc")"
+good 'it installs below DESTDIR' without_kit "$fresh" env DESTDIR="$work/staged" ./install "$prefix"
+same 'dted.pc below DESTDIR' "prefix=$prefix" "$(head -n 1 "$work/staged$prefix/lib/pkgconfig/dted.pc")"
 bad 'a prefix that is no full path' 'usage: ./install PREFIX' without_kit "$fresh" ./install third
 
 # ---- the same, with what was not packed ----
@@ -70,7 +70,7 @@ good 'a file that was not packed is not installed' [ -e "$work/third/bin/dted" -
 unpack "dted-$version"
 cp "$ARCHIVE" "$work/given.a"
 same 'the packed sources' "$(git ls-files | sort)" "$(cd "$fresh" && find . ! -type d -printf '%P\n' | sort)"
-bad 'the sources alone' 'there is no rt on the PATH' without_kit "$fresh" make install DESTDIR="$stage"
+bad 'the sources alone' 'there is no rt on the PATH' without_kit "$fresh" make install DESTDIR="$stage" PREFIX="$prefix"
 good 'the sources alone: nothing is there' [ ! -e "$stage" ]
 good 'the sources, with an archive' without_kit "$fresh" make install DESTDIR="$stage" PREFIX="$prefix" ARCHIVE="$work/given.a"
 same 'the sources, with an archive, say' 1 "$(grep -cF 'dted-intake is left out' "$work/log")"
