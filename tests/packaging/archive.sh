@@ -12,7 +12,6 @@ calls=$(sed -nE 's/^[A-Za-z][A-Za-z0-9_ *]*[ *](dted_[a-z0-9_]+)\(.*\);$/\1/p' i
 good 'the header has calls' [ -n "$calls" ]
 same 'the archive has the calls of the header, and no other name' "$calls" "$(names "$ARCHIVE" -g --defined-only)"
 same 'the archive needs nothing more' '' "$(names "$ARCHIVE" -u | grep -vxE 'mem(cpy|move|set|cmp)')"
-same 'dted.3 has the calls of the header' "$calls" "$(sed -n 's/^\.Fo //p' man/dted.3 | sort)"
 
 good 'the shared library' make shared
 shared=target/shared/libdted.so.$version

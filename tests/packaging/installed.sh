@@ -55,6 +55,10 @@ due=$({
     printf 'share/man/man3/%s.3\n' $functions
 } | sort)
 
+same 'the functions that dted.3 names' "$functions" "$(sed -n 's/^\.Nm \(dted_[a-z0-9_]*\).*/\1/p' man/dted.3 | sort)"
+same 'the functions that dted.3 declares' "$functions" \
+    "$(sed -n '/^\.Sh SYNOPSIS/,/^\.Sh DESCRIPTION/s/^\.F[on] \(dted_[a-z0-9_]*\).*/\1/p' man/dted.3 | sort)"
+
 # ---- with one prefix ----
 good 'install' make install DESTDIR="$stage" PREFIX="$prefix"
 good 'install once more' make install DESTDIR="$stage" PREFIX="$prefix"
