@@ -1,4 +1,4 @@
-/* compare.c - compares the library with the second reader and writer on cases from a seed: compare [SEED [CASES]].
+/* compare.c - compares the library with the second reader and writer on cases from a seed: compare [SEED [CASES [SIDES]]].
  *
  * Prints the seed first, at most 20 reports of differences, and last `N passed, M failed`.
  */
@@ -23,6 +23,8 @@
 #define MOST_REPORTS 20
 #define MOST_SECONDS 120 /* for one case: far more than the longest takes, even in a checked build */
 #define CASES 24000
+
+unsigned sides = 2;
 
 static uint64_t seed, case_number, passed, failed, reports;
 static bool case_differs;
@@ -89,6 +91,8 @@ void run_case(void (*body)(const void *), const void *context) {
     case_number++;
     case_differs = false;
     name_case("not named");
+    if (sides == 1)
+        both_side(case_number % 2 == 0 ? AT_START : AT_END);
     alarm(MOST_SECONDS);
     int number = sigsetjmp(out_of_case, 1);
     if (number == 0)
@@ -430,7 +434,7 @@ static uint64_t number_of(const char *text) {
     char *end;
     uint64_t number = strtoull(text, &end, 0);
     if (*text == '\0' || *end != '\0') {
-        fprintf(stderr, "compare [SEED [CASES]]: '%s' is no number\n", text);
+        fprintf(stderr, "compare [SEED [CASES [SIDES]]]: '%s' is no number\n", text);
         exit(2);
     }
     return number;
@@ -439,6 +443,7 @@ static uint64_t number_of(const char *text) {
 int main(int count, char **texts) {
     seed = count > 1 ? number_of(texts[1]) : (uint64_t)time(NULL);
     uint64_t cases = count > 2 ? number_of(texts[2]) : CASES;
+    sides = count > 3 && number_of(texts[3]) == 1 ? 1 : 2;
     printf("seed %" PRIu64 "\n", seed);
     fflush(stdout);
     both_open();

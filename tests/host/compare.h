@@ -16,6 +16,9 @@ void expect(const char *what, uint64_t library, uint64_t due);
 /* The bits of a refusal. */
 uint64_t refusal(uint64_t number, uint64_t place);
 
+/* On how many sides of the pages the cases that need no seed are run: on both, or each on one alone, now this and now that. */
+extern unsigned sides;
+
 /* The cases that need no seed: the paper's examples, and every header byte and number in turn. */
 void run_fixed_cases(void);
 

@@ -453,7 +453,7 @@ static void run_examples(void) {
 }
 
 void run_fixed_cases(void) {
-    for (int side = 0; side < 2; side++) {
+    for (unsigned side = 0; side < sides; side++) {
         both_side(side == 0 ? AT_START : AT_END);
         run_examples();
         run_number_cases();

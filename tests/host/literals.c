@@ -243,7 +243,7 @@ void run_literal_cases(void) {
     run_case(reading_calls_case, NULL);
     run_case(writing_calls_case, NULL);
     run_case(version_case, NULL);
-    for (int side = 0; side < 2; side++) {
+    for (unsigned side = 0; side < sides; side++) {
         both_side(side == 0 ? AT_START : AT_END);
         run_case(names_case, NULL);
         for (size_t i = 0; i < COUNT(zones); i++)

@@ -18,8 +18,8 @@ static void say_reason(unsigned number) {
     printf("reason\t%u\t%s\n", number, or_empty(dted_reason(number)));
 }
 
-static void say_item(unsigned number) {
-    printf("item\t%u\t%s\n", number, or_empty(dted_item_name(number)));
+static void say_item(uint64_t number) {
+    printf("item\t%" PRIu64 "\t%s\n", number, or_empty(dted_item_name(number)));
 }
 
 static void say_refusal(uint64_t number, uint64_t place) {
@@ -38,7 +38,7 @@ static void say_far(void) {
     say_reason(UINT_MAX);
     say_item(256 + 5);
     say_item(65536 + 5);
-    say_item(UINT_MAX);
+    say_item((UINT64_C(1) << 32) + 5);
 }
 
 int main(void) {

@@ -79,13 +79,18 @@ struct reading {
     int accuracies[5];
 };
 
+static bool is(const struct text *text, const char *due) {
+    return strlen(due) == text->count && memcmp(due, text->bytes, text->count) == 0;
+}
+
+/* The same for a text with numbers in it. */
 static bool says(const struct text *text, const char *format, ...) {
     char due[32];
     va_list list;
     va_start(list, format);
-    int count = vsnprintf(due, sizeof due, format, list);
+    vsnprintf(due, sizeof due, format, list);
     va_end(list);
-    return count >= 0 && (size_t)count == text->count && memcmp(due, text->bytes, text->count) == 0;
+    return is(text, due);
 }
 
 /* The number that some digits write, or -1 where one of them is no digit. */
@@ -124,7 +129,7 @@ static bool origin(const struct text *text, const char *letters, int least, int 
 
 static bool accuracy(const struct text *text, int *metres) {
     *metres = number_in(text, 0, 4); /* -1 says not available, too */
-    return *metres >= 0 || says(text, "NA  ");
+    return *metres >= 0 || is(text, "NA  ");
 }
 
 /* A corner's text with the letter of its side; with the other letter too at 0 degrees, and at the angle `either`. */
@@ -143,7 +148,7 @@ static bool corner_longitude(const struct text *text, int degrees) {
     return corner(text, 3, degrees, "EW", 180);
 }
 
-static bool uhl_mark(const struct text *t, struct reading *r) { (void)r; return says(t, "UHL1"); }
+static bool uhl_mark(const struct text *t, struct reading *r) { (void)r; return is(t, "UHL1"); }
 static bool uhl_longitude(const struct text *t, struct reading *r) { return origin(t, "EW", -180, &r->longitude); }
 static bool uhl_latitude(const struct text *t, struct reading *r) { return origin(t, "NS", -90, &r->latitude); }
 
@@ -167,11 +172,11 @@ static bool uhl_accuracy(const struct text *t, struct reading *r) { return accur
 
 static bool uhl_security(const struct text *t, struct reading *r) {
     r->security = t->bytes[0];
-    return says(t, "S  ") || says(t, "C  ") || says(t, "U  ") || says(t, "R  ");
+    return is(t, "S  ") || is(t, "C  ") || is(t, "U  ") || is(t, "R  ");
 }
 
-static bool uhl_last(const struct text *t, struct reading *r) { (void)r; return says(t, "0"); }
-static bool dsi_mark(const struct text *t, struct reading *r) { (void)r; return says(t, "DSI"); }
+static bool uhl_last(const struct text *t, struct reading *r) { (void)r; return is(t, "0"); }
+static bool dsi_mark(const struct text *t, struct reading *r) { (void)r; return is(t, "DSI"); }
 static bool dsi_security(const struct text *t, struct reading *r) { return t->bytes[0] == r->security; }
 static bool dsi_series(const struct text *t, struct reading *r) { return says(t, "DTED%d", r->level); }
 
@@ -185,14 +190,14 @@ static bool dsi_version(const struct text *t, struct reading *r) {
     return memchr("ABCDEFGHIJKLMNOPQRSTUVWXYZ", r->version, 26) != NULL;
 }
 
-static bool dsi_specification(const struct text *t, struct reading *r) { (void)r; return says(t, "PRF89020B"); }
+static bool dsi_specification(const struct text *t, struct reading *r) { (void)r; return is(t, "PRF89020B"); }
 
 static bool dsi_vertical(const struct text *t, struct reading *r) {
-    r->e96 = says(t, "E96");
-    return r->e96 || says(t, "MSL");
+    r->e96 = is(t, "E96");
+    return r->e96 || is(t, "MSL");
 }
 
-static bool dsi_horizontal(const struct text *t, struct reading *r) { (void)r; return says(t, "WGS84"); }
+static bool dsi_horizontal(const struct text *t, struct reading *r) { (void)r; return is(t, "WGS84"); }
 
 static bool dsi_latitude(const struct text *t, struct reading *r) {
     return says(t, "%02d0000.0%c", size_of(r->latitude), letter_of(r->latitude, "NS"));
@@ -206,7 +211,7 @@ static bool south(const struct text *t, struct reading *r) { return corner_latit
 static bool north(const struct text *t, struct reading *r) { return corner_latitude(t, r->latitude + 1); }
 static bool west(const struct text *t, struct reading *r) { return corner_longitude(t, r->longitude); }
 static bool east(const struct text *t, struct reading *r) { return corner_longitude(t, r->longitude + 1); }
-static bool dsi_orientation(const struct text *t, struct reading *r) { (void)r; return says(t, "0000000.0"); }
+static bool dsi_orientation(const struct text *t, struct reading *r) { (void)r; return is(t, "0000000.0"); }
 static bool latitude_interval(const struct text *t, struct reading *r) { return says(t, "%04d", r->latitude_interval); }
 static bool longitude_interval(const struct text *t, struct reading *r) { return says(t, "%04d", r->longitude_interval); }
 static bool columns(const struct text *t, struct reading *r) { return says(t, "%04d", r->columns); }
@@ -217,12 +222,12 @@ static bool dsi_partial(const struct text *t, struct reading *r) {
     return r->partial >= 0;
 }
 
-static bool acc_mark(const struct text *t, struct reading *r) { (void)r; return says(t, "ACC"); }
+static bool acc_mark(const struct text *t, struct reading *r) { (void)r; return is(t, "ACC"); }
 static bool acc_first(const struct text *t, struct reading *r) { return accuracy(t, &r->accuracies[1]); }
 static bool acc_second(const struct text *t, struct reading *r) { return accuracy(t, &r->accuracies[2]); }
 static bool acc_third(const struct text *t, struct reading *r) { return accuracy(t, &r->accuracies[3]); }
 static bool acc_fourth(const struct text *t, struct reading *r) { return accuracy(t, &r->accuracies[4]); }
-static bool acc_outlines(const struct text *t, struct reading *r) { (void)r; return says(t, "00"); }
+static bool acc_outlines(const struct text *t, struct reading *r) { (void)r; return is(t, "00"); }
 
 /* The paper's table of fields, in the order in which they are judged; positions count from 1, as there. */
 static const struct field {
