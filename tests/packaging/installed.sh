@@ -109,6 +109,15 @@ if [ "$(uname -m)" = x86_64 ]; then
     same 'height.py, no file' ', status 2' "$(height cells/none.dt0 46.5 7.5)"
 fi
 
+# ---- what the README shows of the tool, run in its order ----
+if [ "$(uname -m)" = x86_64 ]; then
+    mkdir "$work/as_shown" && cp -r cells "$work/as_shown" && cp cells/terrain.dt0 "$work/as_shown/copy.dt0"
+    sed -n '/^## The tool$/,/^## /s/^    //p' README.md >"$work/session"
+    same "the README's lines of the tool" "$(cat "$work/session")" "$(cd "$work/as_shown" && PATH=$there/bin:$PATH &&
+        sed -n 's/^\$ //p' "$work/session" | while read -r line; do echo "\$ $line" && bash -c "$line"; done 2>&1)"
+    good 'the README shows six commands' [ "$(grep -c '^\$ dted' "$work/session")" -eq 6 ]
+fi
+
 # ---- the lines of docs/MANY.md that need one machine, as the page has them ----
 if [ "$(uname -m)" = x86_64 ]; then
     mkdir "$work/many" && cp -r cells "$work/many"
