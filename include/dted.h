@@ -7,12 +7,12 @@
  * array of DTED_ITEMS numbers and must not be null. The pieces of memory that one call is lent must not overlap. Calls may
  * run at the same time on any threads, as long as none writes what another is lent: one cell must not be edited by two
  * threads at once, nor read while it is edited. Bytes may stand at any address; `items` is aligned as int64_t is. A call needs
- * less than 16 KB of stack. The header is for C99 and C++; of the C library the archive needs memset alone.
+ * less than 16 KB of stack. The header is for C99 and C++11; of the C library the archive needs memset alone.
  *
  * ANSWERS. Every call answers a dted_answer. Ask dted_number first: it is DTED_OK, or it says why the call was refused; then
  * dted_place says where. Of an answer that is DTED_OK, the functions at the end of this header take out what it holds; each says to
- * which calls it belongs. Used on any other answer, such as a refusal, they return 0, or DTED_VOID for a height. To find such
- * uses, define DTED_CHECK before this header is read: then they stop the program, by assert.
+ * which calls it belongs. Used on an answer that they are not for, they return 0, or DTED_VOID for a height. To find such uses, define
+ * DTED_CHECK before this header is first read: then they stop the program, by assert, so not where NDEBUG is defined.
  */
 #ifndef DTED_H
 #define DTED_H
@@ -161,7 +161,9 @@ enum {
     DTED_HOLDS_HEIGHT = 2,
     DTED_HOLDS_POSITION = 3
 };
-static inline int dted_holds(dted_answer answer, unsigned what) { return answer.bits >> 48 == what; }
+static inline int dted_holds(dted_answer answer, unsigned what) {
+    return dted_number(answer) == DTED_OK && answer.bits >> 48 == what;
+}
 
 /* Names that end in _ are this header's own: here, whether an answer is one that the function is for. */
 static inline int dted_is_for_(int good) {

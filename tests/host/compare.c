@@ -10,6 +10,10 @@
 #include "dted.h"
 #include "second.h"
 
+#if defined(CHECKED) && !defined(__SANITIZE_ADDRESS__)
+#error "the checked program is built without the address checker"
+#endif
+
 #include <inttypes.h>
 #include <setjmp.h>
 #include <signal.h>

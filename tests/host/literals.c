@@ -63,6 +63,31 @@ static void names_case(const void *context) {
     expect("not available", (uint64_t)DTED_NOT_AVAILABLE, (uint64_t)-1);
 }
 
+/* ---- the refusals, and the sizes ---- */
+
+static void numbers_case(const void *context) {
+    static const unsigned numbers[] = {
+        DTED_OK, DTED_SHORT, DTED_FIELD, DTED_CUT, DTED_PREAMBLE, DTED_CHECKSUM, DTED_WORD, DTED_SURPLUS, DTED_OFF_GRID, DTED_ITEM,
+        DTED_GRID_LENGTH, DTED_HEIGHT, DTED_ROOM,
+    };
+    (void)context;
+    name_case("names of the refusals, sizes, and what answers hold");
+    expect("names", COUNT(numbers), 13);
+    for (size_t i = 0; i < COUNT(numbers); i++)
+        expect("the name's number", numbers[i], i);
+    expect("header bytes", DTED_HEADER_BYTES, 3428);
+    expect("preamble bytes", DTED_PREAMBLE_BYTES, 8);
+    expect("the longest column", DTED_LONGEST_COLUMN, 7214);
+    expect("the longest cell", DTED_LONGEST_CELL, 25981042);
+    expect("tenths to a degree", DTED_DEGREE, 36000);
+    expect("void", (uint64_t)DTED_VOID, (uint64_t)-32767);
+    expect("a refusal holds nothing", (uint64_t)dted_holds((dted_answer){0x0100000000000000}, 0x100), 0);
+    expect("nothing", DTED_HOLDS_NOTHING, 0);
+    expect("a grid", DTED_HOLDS_GRID, 1);
+    expect("a height", DTED_HOLDS_HEIGHT, 2);
+    expect("a position", DTED_HOLDS_POSITION, 3);
+}
+
 static const struct stored_items {
     const char *name;
     int64_t items[ITEMS];
@@ -243,6 +268,7 @@ void run_literal_cases(void) {
     run_case(reading_calls_case, NULL);
     run_case(writing_calls_case, NULL);
     run_case(version_case, NULL);
+    run_case(numbers_case, NULL);
     for (unsigned side = 0; side < sides; side++) {
         both_side(side == 0 ? AT_START : AT_END);
         run_case(names_case, NULL);

@@ -8,10 +8,10 @@ use lib.ListN.{getD, set}
 use contract.Lifetimes as L
 use denote.Ref.{now}
 use borrow.Fn.Kinds as K
-use Rattle.answers.specs.Told.{Told, refused, numberTold, placeTold, told}
+use Rattle.answers.specs.Told.{Told, refused, accepted, numberTold, placeTold, told}
 use Rattle.answers.specs.Told as telling
 use Rattle.packing.specs.Packed.{packed}
-use Rattle.packing.specs.Apart.{numberIn, placeIn, Fits}
+use Rattle.packing.specs.Apart.{numberIn, placeIn, toldIn, Fits}
 use Rattle.packing.proofs.TakenApart.{number-told, place-told}
 use Rattle.headers.specs.Judged.{factsIn}
 use Rattle.reading.specs.Cell.{startOf, Cell}
@@ -24,6 +24,7 @@ use Rattle.reading.proofs.intake.intake.Kinds as intake-kinds
 use Rattle.dted.proofs.cells.dted_intake.Reads as host-intake
 use Rattle.dted.proofs.cells.dted_intake.Kinds as host-intake-kinds
 use Rattle.demands.proofs.PlacesFit.{number-ranged, intake-fits}
+use Rattle.demands.proofs.HostTold.{intake-told}
 
 -- the number that was answered is 0 exactly where the bytes are a cell
 pub record Exactly (l : List ℕ) (number : ℕ) : Type 0 where
@@ -77,6 +78,11 @@ module _ (κs : L.Lfts 1) (a : K.Dens κs host-intake-kinds.ps) (r : _) (s : _) 
 
   pub host-intake-exactly : Exactly (now (a .0)) (numberIn r)
   host-intake-exactly = subst (Exactly (now (a .0))) (sym number-of) (taken-exactly (now (a .0)))
+
+  -- of a cell, what the header takes out of the answer: its level, columns and posts
+  pub host-cell-told : Cell (now (a .0))
+      → toldIn r ≡ accepted (factsIn (now (a .0)) .grid .level) (factsIn (now (a .0)) .grid .columns) (factsIn (now (a .0)) .grid .posts)
+  host-cell-told cell = intake-told κs a r s kept ∙ cell-accepted (now (a .0)) cell
 
   pub host-byte-refused : (l : List ℕ) (k j v : ℕ) → OneByte l k j v → now (a .0) ≡ set l j v → RefusedIn l k (numberIn r) (placeIn r)
   host-byte-refused l k j v b same =
