@@ -14,7 +14,7 @@ CLOSED = "dted: standard output: Bad file descriptor\n"
 def commands(cell):
     """One call of each command that prints."""
     return (("check", cell), ("check", cell, cell, cell), ("info", cell), ("post", cell, 1, 2), ("at", cell, "89.5", "0.5"),
-            ("set", cell, 1, 2, 3), ("relief", cell, "-"), ("--help",), ("--version",))
+            ("set", cell, 1, 2, 3), ("relief", cell, "-"), ("--help",), ("set", "-h"), ("--version",))
 
 
 def full(cell):
