@@ -1,4 +1,4 @@
-"""dted check over many files: by eight programs on one pipe, by xargs, and with its progress on a terminal."""
+"""dted check over many files: by one program, by eight on one pipe, by xargs, and with its progress on a terminal."""
 import collections
 import os
 import pty
@@ -7,7 +7,7 @@ import subprocess
 import threading
 import time
 
-from running import ROOT, command, filled, fresh, run, same, stored
+from running import ROOT, command, few_descriptors, filled, fresh, run, same, stored, told
 
 GOOD, BAD = "accepted, level 0, 21 columns of 121 posts", "refused 3: a column is not there whole (offset 8508), column 20"
 
@@ -20,6 +20,10 @@ def spread(folder):
         path = filled(folder / f"cell {n}.dt0", good if n % 7 else bad)
         lines[path] = f"{path}: {GOOD if n % 7 else BAD}\n"
     return lines
+
+
+def one_by_one(lines):
+    told("400 files, twenty descriptors", ("check", *lines), "".join(lines.values()), status=1, preexec_fn=few_descriptors)
 
 
 def at_once(lines):
@@ -106,6 +110,7 @@ def progress(folder, lines):
 
 def test(folder):
     lines = spread(fresh(folder, "many"))
+    one_by_one(lines)
     at_once(lines)
     by_xargs(lines)
     progress(fresh(folder, "progress"), lines)

@@ -1,5 +1,6 @@
 """What the parts of tests/tool share: the tool run on words, tests counted, and cells."""
 import pathlib
+import resource
 import subprocess
 import sys
 
@@ -8,6 +9,7 @@ sys.path.insert(0, str(ROOT / "tools"))
 import second_writer
 
 X86_64 = str(ROOT / "tools/x86-64")
+OWNER, GROUP = 12345, 54321  # of files that root gives away: nobody's
 program = None  # tests/tool names it
 results = []
 
@@ -30,6 +32,16 @@ def run(*words, under=(X86_64,), **how):
     if "input" not in how:
         streams["stdin"] = subprocess.DEVNULL
     return subprocess.run(command(*words, under=under), **{**streams, **how})
+
+
+def powerless(group):
+    """For a run by root without its rights, and in this group: as any user who owns no such file."""
+    return "setpriv", f"--groups={group}", "--bounding-set=-all"
+
+
+def few_descriptors():
+    """For a run that may have no more than twenty open: one that closes none does not come far."""
+    resource.setrlimit(resource.RLIMIT_NOFILE, (20, 20))
 
 
 def told(what, words, out="", errors="", status=0, **how):
