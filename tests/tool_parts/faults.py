@@ -5,7 +5,8 @@ import signal
 import subprocess
 import time
 
-from running import GROUP, OWNER, command, filled, fresh, height, named, powerless, same, second_writer, stored, told, with_height
+from running import (GROUP, OWNER, ROOT, command, filled, fresh, height, named, powerless, same, second_writer, stored, told,
+                     with_height)
 
 LINE = "accepted, level 0, 21 columns of 121 posts\n"
 
@@ -30,6 +31,13 @@ def lines(folder):
     told("a short write", ("check", cell), f"{cell}: {LINE}"[5:], under=strace(log, "-e", "inject=write:retval=5:when=1"))
     told("a read that fails in the middle", ("check", cell), errors=f"dted: {cell}: Input/output error\n", status=2,
          under=strace(log, "-P", str(cell), "-e", "inject=read:error=EIO:when=2"))
+
+
+def picture(folder):
+    """A picture whose last bytes are refused when it is closed."""
+    cell, out, log = ROOT / "cells/north_89.dt0", folder / "out.pgm", fresh(folder, "log")
+    told("relief where closing fails", ("relief", cell, out), errors=f"dted: {out}: Input/output error\n", status=2,
+         under=strace(log, "-P", str(out), "-e", "inject=close:error=EIO"))
 
 
 def in_order(folder):
@@ -108,5 +116,5 @@ def replaced(folder):
 
 
 def test(folder):
-    for part in (lines, in_order, failures, not_given_away, killed, replaced):
+    for part in (lines, picture, in_order, failures, not_given_away, killed, replaced):
         part(fresh(folder, f"faults_{part.__name__}"))
