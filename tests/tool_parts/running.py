@@ -21,17 +21,18 @@ def same(what, expected, got):
         print(f"{what}: expected {expected}, got {got}")
 
 
-def command(*words, under=(X86_64,)):
-    """The tool on words, under another program: the one for all machines is a shell script, which has files of its own."""
-    return [*under, program, *(w if isinstance(w, bytes) else str(w) for w in words)]
+def command(*words, under=(X86_64,), tool=None):
+    """The tool, or another build of it, on words, under another program: the one for all machines is a shell script, which has files
+    of its own."""
+    return [*under, tool or program, *(w if isinstance(w, bytes) else str(w) for w in words)]
 
 
-def run(*words, under=(X86_64,), **how):
+def run(*words, under=(X86_64,), tool=None, **how):
     """A run of the tool; its input is empty where none is given."""
     streams = {"stdout": subprocess.PIPE, "stderr": subprocess.PIPE, "timeout": 60}
     if "input" not in how:
         streams["stdin"] = subprocess.DEVNULL
-    return subprocess.run(command(*words, under=under), **{**streams, **how})
+    return subprocess.run(command(*words, under=under, tool=tool), **{**streams, **how})
 
 
 def powerless(group):
