@@ -1,5 +1,6 @@
 """What the parts of tests/tool share: the tool run on words, tests counted, and cells."""
 import pathlib
+import platform
 import resource
 import subprocess
 import sys
@@ -8,7 +9,8 @@ ROOT = pathlib.Path(__file__).resolve().parent.parent.parent
 sys.path.insert(0, str(ROOT / "tools"))
 import second_writer
 
-X86_64 = str(ROOT / "tools/x86-64")
+NATIVE = platform.machine() == "x86_64"  # else an emulator stands between: it has files, memory and calls of its own
+UNDER = () if NATIVE else (str(ROOT / "tools/x86-64"),)
 OWNER, GROUP = 12345, 54321  # of files that root gives away: nobody's
 program = None  # tests/tool names it
 results = []
@@ -21,13 +23,12 @@ def same(what, expected, got):
         print(f"{what}: expected {expected}, got {got}")
 
 
-def command(*words, under=(X86_64,), tool=None):
-    """The tool, or another build of it, on words, under another program: the one for all machines is a shell script, which has files
-    of its own."""
+def command(*words, under=UNDER, tool=None):
+    """The tool, or another build of it, on words, under another program."""
     return [*under, tool or program, *(w if isinstance(w, bytes) else str(w) for w in words)]
 
 
-def run(*words, under=(X86_64,), tool=None, **how):
+def run(*words, under=UNDER, tool=None, **how):
     """A run of the tool; its input is empty where none is given."""
     streams = {"stdout": subprocess.PIPE, "stderr": subprocess.PIPE, "timeout": 60}
     if "input" not in how:

@@ -3,7 +3,7 @@ import os
 import resource
 import signal
 
-from running import GROUP, OWNER, ROOT, X86_64, filled, fresh, height, named, powerless, run, same, stored, told, with_height
+from running import GROUP, OWNER, ROOT, UNDER, filled, fresh, height, named, powerless, run, same, stored, told, with_height
 
 REFUSED = "refused 11: a height or void is not allowed (index 0)"
 OFF_GRID = "refused 8: no such column, post or position"
@@ -84,7 +84,7 @@ def by_others(folder):
         os.chown(cell, OWNER, GROUP)
         os.chmod(cell, mode & 0o7777)
         told(f"set by one of the group {member_of}", ("set", cell, 1, 2, 3), f"{cell}: column 1, post 2: {height(data, 1, 2)}, now 3\n",
-             under=(*powerless(member_of), X86_64))
+             under=(*powerless(member_of), *UNDER))
         after = os.stat(cell)
         same("its mode, owner and group", (mode, 0, group), (after.st_mode, after.st_uid, after.st_gid))
         cell.unlink()
