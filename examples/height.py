@@ -3,9 +3,11 @@
 
     height.py LIBRARY CELL LATITUDE LONGITUDE       decimal degrees, north and east positive
 
-Prints metres, or `void`, or `refused NUMBER PLACE`. Exit status: 0 done, 1 refused, 2 a file or an argument is wrong.
+Prints metres, or `void`, or `refused NUMBER PLACE`. Exit status: 0 done, 1 refused, 2 a file or an argument is wrong, or the line
+could not be written.
 """
 import ctypes
+import os
 import sys
 
 # as dted.h has them
@@ -46,6 +48,12 @@ def look_up(library, cell, latitude, longitude):
     return answer if number(answer) != OK else library.dted_position(cell, len(cell), latitude, longitude)
 
 
+def words(answer):
+    if number(answer) != OK:
+        return f"refused {number(answer)} {place(answer)}"
+    return "void" if height(answer) == VOID else str(height(answer))
+
+
 def main():
     if len(sys.argv) != 5:
         print("usage: height.py LIBRARY CELL LATITUDE LONGITUDE", file=sys.stderr)
@@ -54,15 +62,12 @@ def main():
         library, latitude, longitude = load(sys.argv[1]), tenths(sys.argv[3]), tenths(sys.argv[4])
         with open(sys.argv[2], "rb") as file:
             cell = file.read(LONGEST_CELL + 1)  # a byte more, so that a file that goes on is refused
-    except (OSError, ValueError) as trouble:
+        answer = look_up(library, cell, latitude, longitude)
+        os.write(1, f"{words(answer)}\n".encode())  # print may keep it, and fail after the end
+    except (OSError, ValueError, AttributeError) as trouble:  # the last: a library without the calls
         print(f"height.py: {trouble}", file=sys.stderr)
         return 2
-    answer = look_up(library, cell, latitude, longitude)
-    if number(answer) != OK:
-        print("refused", number(answer), place(answer))
-        return 1
-    print("void" if height(answer) == VOID else height(answer))
-    return 0
+    return int(number(answer) != OK)
 
 
 sys.exit(main())

@@ -27,9 +27,14 @@ static const struct command commands[] = {
 
 enum { COMMANDS = sizeof commands / sizeof *commands };
 
+/* How one command is called. */
+static int usage_of(const struct command *command, int descriptor) {
+    return say(descriptor, "usage: dted %s %s\n", command->name, command->words);
+}
+
 /* How every command is called. */
 static int usage(int descriptor) {
-    int status = say(descriptor, "usage: dted --help | --version\n");
+    int status = say(descriptor, "usage: dted [COMMAND] -h | --help\n       dted --version\n");
     for (int i = 0; status == DONE && i < COMMANDS; i++)
         status = say(descriptor, "       dted %s %s\n", commands[i].name, commands[i].words);
     return status;
@@ -42,27 +47,37 @@ static const struct command *find(const char *name) {
     return NULL;
 }
 
-/* Takes out the `--` that ends options. Where a file is due before it, a word with a dash is an option, and there is none; `-` alone
- * is a file. */
-static bool end_options(int *count, char **words, int files) {
+static bool is_help(const char *word) {
+    return strcmp(word, "-h") == 0 || strcmp(word, "--help") == 0;
+}
+
+/* Takes out the `--` that ends options. Where a file is due before it, a word with a dash is an option, and `-` alone a file: answers
+ * the first option, or null. */
+static const char *end_options(int *count, char **words, int files) {
     int i = 0;
     for (; i < *count && i < files && strcmp(words[i], "--") != 0; i++)
         if (words[i][0] == '-' && words[i][1] != '\0')
-            return wrong_word(words[i], "no such option");
+            return words[i];
     if (i < *count && strcmp(words[i], "--") == 0) {
         memmove(words + i, words + i + 1, (size_t)(*count - i) * sizeof *words);
         --*count;
     }
-    return true;
+    return NULL;
+}
+
+/* There is one option alone: it shows how the command is called. */
+static int take_option(const struct command *command, const char *option) {
+    return is_help(option) ? usage_of(command, STDOUT_FILENO) : complain(TROUBLE, option, "no such option");
 }
 
 /* Runs a command on its words, with room for a cell; pages of it that no file fills are never touched. */
 static int run(const struct command *command, int count, char **words) {
     struct cell cell = {0};
-    if (!end_options(&count, words, command->files))
-        return TROUBLE;
+    const char *option = end_options(&count, words, command->files);
+    if (option)
+        return take_option(command, option);
     if (count < command->least || count > command->most) {
-        say(STDERR_FILENO, "usage: dted %s %s\n", command->name, command->words);
+        usage_of(command, STDERR_FILENO);
         return TROUBLE;
     }
     cell.bytes = malloc(CELL_ROOM);
@@ -80,7 +95,7 @@ int main(int count, char **words) {
         usage(STDERR_FILENO);
         return TROUBLE;
     }
-    if (count == 2 && strcmp(words[1], "--help") == 0)
+    if (count == 2 && is_help(words[1]))
         return usage(STDOUT_FILENO);
     if (count == 2 && strcmp(words[1], "--version") == 0)
         return say(STDOUT_FILENO, "dted %s\n", DTED_VERSION);

@@ -45,11 +45,18 @@ int lock_file(struct locked *file, const char *name) {
     }
 }
 
-/* Fills a new file, like the old one but for its bytes, and has the disk take it. */
+/* Gives a new file the old one's owner and group; where that is not allowed the group alone, so that a file which a group shares
+ * stays with it; where that is not allowed either it stays the caller's. */
+static bool hand_over(int descriptor, const struct stat *like) {
+    if (fchown(descriptor, like->st_uid, like->st_gid) == 0)
+        return true;
+    return errno == EPERM && (fchown(descriptor, (uid_t)-1, like->st_gid) == 0 || errno == EPERM);
+}
+
+/* Fills a new file, like the old one but for its bytes, and has the disk take it. The mode after the owner, which takes bits of it. */
 static bool fill(int descriptor, const struct stat *like, const uint8_t *bytes, size_t length) {
-    if (fchown(descriptor, like->st_uid, like->st_gid) != 0 && errno != EPERM)
-        return false;
-    return fchmod(descriptor, like->st_mode & 07777) == 0 && write_all(descriptor, bytes, length) && fsync(descriptor) == 0;
+    return hand_over(descriptor, like) && fchmod(descriptor, like->st_mode & 07777) == 0 && write_all(descriptor, bytes, length) &&
+           fsync(descriptor) == 0;
 }
 
 /* Makes the new file, its name from a pattern for mkstemp, and renames it; where that fails, it is removed. */

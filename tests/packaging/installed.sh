@@ -96,8 +96,10 @@ bad 'CMake asks for other calls' 'considered but not accepted' asked_for "${sove
 bad 'CMake asks for a later version' 'considered but not accepted' asked_for "${version%.*}.$((${version##*.} + 1))"
 
 # ---- from Python, where it can load the library ----
+# What it prints, a reason on standard error without its words, and its status.
 height() { # CELL LATITUDE LONGITUDE
-    echo "$(examples/height.py "$there/lib/libdted.so" "$@" 2>/dev/null), status $?"
+    echo "$(examples/height.py "${library:-$there/lib/libdted.so}" "$@" 2>&1 >"${out:-/dev/stdout}" |
+        sed 's/^height\.py: ..*/why/'; exit "${PIPESTATUS[0]}"), status $?"
 }
 if [ "$(uname -m)" = x86_64 ]; then
     same 'height.py' '486, status 0' "$(height cells/terrain.dt0 46.5 7.5)"
@@ -105,8 +107,11 @@ if [ "$(uname -m)" = x86_64 ]; then
     same 'height.py, a void' 'void, status 0' "$(height cells/void_in_partial.dt0 90 1)"
     same 'height.py, a wrong checksum in another column' 'refused 5 3678, status 1' "$(height cells/wrong_first_checksum.dt0 0 -179.5)"
     same 'height.py, off the cell' 'refused 8 0, status 1' "$(height cells/terrain.dt0 1e300 7.5)"
-    same 'height.py, no number' ', status 2' "$(height cells/terrain.dt0 north 7.5)"
-    same 'height.py, no file' ', status 2' "$(height cells/none.dt0 46.5 7.5)"
+    same 'height.py, no number' 'why, status 2' "$(height cells/terrain.dt0 north 7.5)"
+    same 'height.py, no file' 'why, status 2' "$(height cells/none.dt0 46.5 7.5)"
+    same 'height.py, a library without the calls' 'why, status 2' "$(library=libc.so.6 height cells/terrain.dt0 46.5 7.5)"
+    same 'height.py, a full device' 'why, status 2' "$(out=/dev/full height cells/terrain.dt0 46.5 7.5)"
+    same 'height.py, a full device and a refusal' 'why, status 2' "$(out=/dev/full height cells/terrain.dt0 1e300 7.5)"
 fi
 
 # ---- what the README shows of the tool, run in its order ----

@@ -1,10 +1,12 @@
 """The tool's own calls, seen and changed by strace: one write to a line, short and broken calls, and a file replaced in its order."""
+import os
 import re
 import signal
 import subprocess
 import time
 
-from running import command, filled, fresh, height, named, same, second_writer, stored, told, with_height
+from running import (GROUP, OWNER, ROOT, command, filled, fresh, height, named, powerless, same, second_writer, stored, told,
+                     with_height)
 
 LINE = "accepted, level 0, 21 columns of 121 posts\n"
 
@@ -29,6 +31,13 @@ def lines(folder):
     told("a short write", ("check", cell), f"{cell}: {LINE}"[5:], under=strace(log, "-e", "inject=write:retval=5:when=1"))
     told("a read that fails in the middle", ("check", cell), errors=f"dted: {cell}: Input/output error\n", status=2,
          under=strace(log, "-P", str(cell), "-e", "inject=read:error=EIO:when=2"))
+
+
+def picture(folder):
+    """A picture whose last bytes are refused when it is closed."""
+    cell, out, log = ROOT / "cells/north_89.dt0", folder / "out.pgm", fresh(folder, "log")
+    told("relief where closing fails", ("relief", cell, out), errors=f"dted: {out}: Input/output error\n", status=2,
+         under=strace(log, "-P", str(out), "-e", "inject=close:error=EIO"))
 
 
 def in_order(folder):
@@ -62,6 +71,21 @@ def failures(folder):
     same("names", ["cell.dt0", "log"], named(folder))
 
 
+def not_given_away(folder):
+    """Where the owner is not allowed the group alone is asked for, and where that fails for another reason it is told."""
+    data, log = stored("north_89.dt0")[0], fresh(folder, "log")
+    cell = filled(folder / "cell.dt0", data)
+    told("set where the owner is not allowed", ("set", cell, 1, 2, 3), f"{cell}: column 1, post 2: {height(data, 1, 2)}, now 3\n",
+         under=strace(log, "-e", "trace=fchown", "-e", "inject=fchown:error=EPERM:when=1"))
+    same("what is asked for then", [f"-1, {os.stat(cell).st_gid}"], re.findall(r"fchown\(\d+, (.*)\) += 0", "\n".join(calls(log, "fchown"))))
+    if os.geteuid() == 0:
+        os.chown(cell, OWNER, GROUP)
+        os.chmod(cell, 0o666)
+        told("set where the group fails", ("set", cell, 1, 2, 4), errors=f"dted: {cell}: Input/output error\n", status=2,
+             under=(*powerless(GROUP), *strace(log, "-e", "inject=fchown:error=EIO:when=2")))
+        same("the old cell alone", (True, ["cell.dt0", "log"]), (cell.read_bytes() == with_height(data, 1, 2, 3), named(folder)))
+
+
 def killed(folder):
     """Killed before any call: the old cell is whole, or after the rename the new one; what is left over looks like no cell."""
     old, log = stored("north_89.dt0")[0], fresh(folder, "log")
@@ -92,5 +116,5 @@ def replaced(folder):
 
 
 def test(folder):
-    for part in (lines, in_order, failures, killed, replaced):
+    for part in (lines, picture, in_order, failures, not_given_away, killed, replaced):
         part(fresh(folder, f"faults_{part.__name__}"))

@@ -1,4 +1,4 @@
-"""dted check over many files: by eight programs on one pipe, by xargs, and with its progress on a terminal."""
+"""dted check over many files: by one program, by eight on one pipe, by xargs, and with its progress on a terminal."""
 import collections
 import os
 import pty
@@ -7,7 +7,7 @@ import subprocess
 import threading
 import time
 
-from running import ROOT, command, filled, fresh, run, same, stored
+from running import ROOT, command, few_descriptors, filled, fresh, run, same, stored, told
 
 GOOD, BAD = "accepted, level 0, 21 columns of 121 posts", "refused 3: a column is not there whole (offset 8508), column 20"
 
@@ -20,6 +20,10 @@ def spread(folder):
         path = filled(folder / f"cell {n}.dt0", good if n % 7 else bad)
         lines[path] = f"{path}: {GOOD if n % 7 else BAD}\n"
     return lines
+
+
+def one_by_one(lines):
+    told("400 files, twenty descriptors", ("check", *lines), "".join(lines.values()), status=1, preexec_fn=few_descriptors)
 
 
 def at_once(lines):
@@ -74,38 +78,53 @@ def screen(text):
     return ["".join(row).rstrip() for row in rows]
 
 
-def slowly(pipe):
-    """Opens a named pipe a while later, with nothing in it."""
+def slowly(pipes, seconds):
+    """Makes named pipes, and opens each so many seconds after the one before, with nothing in it."""
+    for pipe in pipes:
+        os.mkfifo(pipe)
+
     def feed():
-        time.sleep(0.3)
-        open(pipe, "wb").close()
+        for pipe in pipes:
+            time.sleep(seconds)
+            open(pipe, "wb").close()
     threading.Thread(target=feed, daemon=True).start()
 
 
 def progress(folder, lines):
     bad, good, missing = ROOT / "cells/one_short.dt0", ROOT / "cells/north_89.dt0", folder / "missing"
     pipe, empty = folder / "pipe", "refused 1: fewer bytes than the headers have (length 0)"
-    os.mkfifo(pipe)
     rows = [f"{bad}: {BAD}", f"dted: {missing}: No such file or directory", f"{pipe}: {empty}", f"{good}: {GOOD}", ""]
     for lines_too in (True, False):
-        slowly(pipe)
+        slowly([pipe], 0.3)
         text, _ = on_terminal(("check", bad, missing, pipe, good), lines_too)
+        pipe.unlink()
         seen = re.findall(r"\r( \d[^\r]*refused)\r(?:\r( *)\r)?", text)
         same("how far it has come", [" 0 of 4, 0 refused", " 3 of 4, 2 refused"], [shown for shown, _ in seen[:1] + seen[-1:]])
         before_lines = seen if lines_too else seen[-1:]
         same("it is wiped", [" " * len(shown) for shown, _ in before_lines], [blanks for _, blanks in before_lines])
         same("what is seen in the end", rows if lines_too else [rows[1], ""], screen(text))
-    text, seconds = on_terminal(("check", *lines), True)
+    text, _ = on_terminal(("check", *lines), True)
     same("what is seen of 400 files", [line.rstrip() for line in lines.values()] + [""], screen(text))
-    shown = text.count(" of 400, ")
-    same(f"shown at most ten times a second ({shown} in {seconds} s)", True, 1 <= shown <= 10 * seconds + 1)
     same("no progress of one file", f"{good}: {GOOD}\r\n", on_terminal(("check", good), True)[0])
+    same("progress of two", ["\r 0 of 2, 0 refused\r"], re.findall("\r .*refused\r", on_terminal(("check", good, good), False)[0]))
     same("no progress of another command", True, "\r " not in on_terminal(("info", good), True)[0])
     same("no progress but on a terminal", b"", run("check", good, good).stderr)
 
 
+def for_a_while(folder):
+    """Files that come in for more than a second, their lines elsewhere: the count is shown ten times a second and wiped once."""
+    pipes = [folder / f"pipe {n}" for n in range(40)]
+    slowly(pipes, 0.03)
+    text, seconds = on_terminal(("check", *pipes), False)
+    shown = text.count(" of 40, ")
+    same(f"shown ten times a second ({shown} in {seconds} s)", True, 8 <= shown <= 10 * seconds + 1)
+    same("wiped at the end alone", ([""], 1), (screen(text), len(re.findall("\r +\r", text))))
+
+
 def test(folder):
     lines = spread(fresh(folder, "many"))
+    one_by_one(lines)
     at_once(lines)
     by_xargs(lines)
     progress(fresh(folder, "progress"), lines)
+    for_a_while(fresh(folder, "for_a_while"))

@@ -1,11 +1,10 @@
 """Output that is full, closed, or read by nobody: told on standard error, and a status; what is closed is never a file's number."""
 import os
-import platform
 import resource
 import signal
 import subprocess
 
-from running import ROOT, command, filled, fresh, named, run, same, stored, told, with_height
+from running import NATIVE, ROOT, command, filled, fresh, named, run, same, stored, told, with_height
 
 NO_SPACE, NO_PIPE = "dted: standard output: No space left on device\n", "dted: standard output: Broken pipe\n"
 CLOSED = "dted: standard output: Bad file descriptor\n"
@@ -14,7 +13,7 @@ CLOSED = "dted: standard output: Bad file descriptor\n"
 def commands(cell):
     """One call of each command that prints."""
     return (("check", cell), ("check", cell, cell, cell), ("info", cell), ("post", cell, 1, 2), ("at", cell, "89.5", "0.5"),
-            ("set", cell, 1, 2, 3), ("relief", cell, "-"), ("--help",), ("--version",))
+            ("set", cell, 1, 2, 3), ("relief", cell, "-"), ("--help",), ("set", "-h"), ("--version",))
 
 
 def full(cell):
@@ -34,11 +33,11 @@ def unread(cell):
 
 
 def without(*descriptors):
-    """A run with these closed, and no shell before it, which would put files there."""
+    """A run with these closed."""
     def close():
         for descriptor in descriptors:
             os.close(descriptor)
-    return {"preexec_fn": close, "under": ()}
+    return {"preexec_fn": close}
 
 
 def closed(folder):
@@ -88,7 +87,7 @@ def test(folder):
     cell = filled(folder / "cell.dt0", stored("north_89.dt0")[0])
     full(cell)
     unread(cell)
-    if platform.machine() == "x86_64":
+    if NATIVE:
         closed(fresh(folder, "closed"))
         not_in_files(fresh(folder, "not_in_files"))
         memory(fresh(folder, "memory"))

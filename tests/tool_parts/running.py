@@ -1,5 +1,7 @@
 """What the parts of tests/tool share: the tool run on words, tests counted, and cells."""
 import pathlib
+import platform
+import resource
 import subprocess
 import sys
 
@@ -7,7 +9,9 @@ ROOT = pathlib.Path(__file__).resolve().parent.parent.parent
 sys.path.insert(0, str(ROOT / "tools"))
 import second_writer
 
-X86_64 = str(ROOT / "tools/x86-64")
+NATIVE = platform.machine() == "x86_64"  # else an emulator stands between: it has files, memory and calls of its own
+UNDER = () if NATIVE else (str(ROOT / "tools/x86-64"),)
+OWNER, GROUP = 12345, 54321  # of files that root gives away: nobody's
 program = None  # tests/tool names it
 results = []
 
@@ -19,17 +23,27 @@ def same(what, expected, got):
         print(f"{what}: expected {expected}, got {got}")
 
 
-def command(*words, under=(X86_64,)):
-    """The tool on words, under another program: the one for all machines is a shell script, which has files of its own."""
-    return [*under, program, *(w if isinstance(w, bytes) else str(w) for w in words)]
+def command(*words, under=UNDER, tool=None):
+    """The tool, or another build of it, on words, under another program."""
+    return [*under, tool or program, *(w if isinstance(w, bytes) else str(w) for w in words)]
 
 
-def run(*words, under=(X86_64,), **how):
+def run(*words, under=UNDER, tool=None, **how):
     """A run of the tool; its input is empty where none is given."""
     streams = {"stdout": subprocess.PIPE, "stderr": subprocess.PIPE, "timeout": 60}
     if "input" not in how:
         streams["stdin"] = subprocess.DEVNULL
-    return subprocess.run(command(*words, under=under), **{**streams, **how})
+    return subprocess.run(command(*words, under=under, tool=tool), **{**streams, **how})
+
+
+def powerless(group):
+    """For a run by root without its rights, and in this group: as any user who owns no such file."""
+    return "setpriv", f"--groups={group}", "--bounding-set=-all"
+
+
+def few_descriptors():
+    """For a run that may have no more than twenty open: one that closes none does not come far."""
+    resource.setrlimit(resource.RLIMIT_NOFILE, (20, 20))
 
 
 def told(what, words, out="", errors="", status=0, **how):

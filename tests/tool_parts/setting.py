@@ -1,10 +1,9 @@
-"""dted set: one post of a file corrected, whole or not at all, and many corrections at once."""
+"""dted set: one post of a file corrected, whole or not at all, and what becomes of the file."""
 import os
 import resource
 import signal
-import subprocess
 
-from running import ROOT, command, filled, fresh, height, named, run, same, second_writer, stored, told, with_height
+from running import GROUP, OWNER, ROOT, UNDER, filled, fresh, height, named, powerless, run, same, stored, told, with_height
 
 REFUSED = "refused 11: a height or void is not allowed (index 0)"
 OFF_GRID = "refused 8: no such column, post or position"
@@ -60,9 +59,9 @@ def kept(folder):
     """Mode and owner are kept; a link is followed and stays; another hard link keeps the old cell."""
     data = stored("north_89.dt0")[0]
     cell = filled(folder / "cell.dt0", data)
-    os.chmod(cell, 0o642)
     if os.geteuid() == 0:
-        os.chown(cell, 12345, 54321)
+        os.chown(cell, OWNER, GROUP)
+    os.chmod(cell, 0o2642)
     before = os.stat(cell)
     os.link(cell, folder / "hard.dt0")
     links = fresh(folder, "links")
@@ -70,11 +69,25 @@ def kept(folder):
     (links / "further.dt0").symlink_to("../cell.dt0")
     told("set of a link", ("set", links / "soft.dt0", 1, 2, 3), f"{links}/soft.dt0: column 1, post 2: {height(data, 1, 2)}, now 3\n")
     after = os.stat(cell)
-    same("mode and owner", (before.st_mode, before.st_uid, before.st_gid), (after.st_mode, after.st_uid, after.st_gid))
+    same("mode and owner", (0o102642, before.st_uid, before.st_gid), (after.st_mode, after.st_uid, after.st_gid))
     same("the file behind the link", True, cell.read_bytes() == with_height(data, 1, 2, 3))
     same("the links", ["further.dt0", "../cell.dt0"], [os.readlink(links / n) for n in ("soft.dt0", "further.dt0")])
     same("the hard link", True, (folder / "hard.dt0").read_bytes() == data)
     same("names", (["cell.dt0", "hard.dt0", "links"], ["further.dt0", "soft.dt0"]), (named(folder), named(links)))
+
+
+def by_others(folder):
+    """By another than the owner: a member of the group, with which the file stays; and one who is in another group."""
+    data = stored("north_89.dt0")[0]
+    for member_of, mode, group in ((GROUP, 0o102664, GROUP), (GROUP + 1, 0o100666, os.getegid())):
+        cell = filled(folder / "cell.dt0", data)
+        os.chown(cell, OWNER, GROUP)
+        os.chmod(cell, mode & 0o7777)
+        told(f"set by one of the group {member_of}", ("set", cell, 1, 2, 3), f"{cell}: column 1, post 2: {height(data, 1, 2)}, now 3\n",
+             under=(*powerless(member_of), *UNDER))
+        after = os.stat(cell)
+        same("its mode, owner and group", (mode, 0, group), (after.st_mode, after.st_uid, after.st_gid))
+        cell.unlink()
 
 
 def names(folder):
@@ -99,24 +112,6 @@ def no_files(folder):
     same("names", ["nowhere", "pipe"], named(folder))
 
 
-def at_once(folder):
-    """Eight corrections of one file at once, by its name and by a link, six times: every one is kept."""
-    data = second_writer.repeated(1, 60, 7)
-    cell = filled(folder / "cell.dt1", data)
-    (folder / "link").symlink_to("cell.dt1")
-    lines, wanted = [], []
-    for turn in range(6):
-        runs = [subprocess.Popen(command("set", (cell, folder / "link")[n % 2], 8 * turn + n, n, 1000 + n), stdout=subprocess.PIPE)
-                for n in range(8)]
-        lines += [(run.communicate()[0].decode().split("now ")[-1], run.returncode) for run in runs]
-        for n in range(8):
-            data = with_height(data, 8 * turn + n, n, 1000 + n, 1201)
-            wanted.append((f"{1000 + n}\n", 0))
-    same("eight corrections at once", wanted, lines)
-    same("all are kept", [], [n for n in range(48) if height(cell.read_bytes(), n, n % 8, 1201) != 1000 + n % 8])
-    same("and nothing else is changed", (True, ["cell.dt1", "link"]), (cell.read_bytes() == data, named(folder)))
-
-
 def too_large(folder):
     """A file that may not grow: a write that fails leaves nothing, and a signal there the old cell and a file that is no cell's."""
     data = stored("terrain.dt0")[0]
@@ -136,6 +131,8 @@ def too_large(folder):
 
 def test(folder):
     stream()
-    for part in (corrections, refusals, kept, names, no_files, at_once, too_large):
+    for part in (corrections, refusals, kept, names, no_files, too_large):
         part(fresh(folder, part.__name__))
+    if os.geteuid() == 0:
+        by_others(fresh(folder, "by_others"))
     same("the shipped cell", True, run("post", ROOT / "cells/terrain.dt0", 60, 60).stdout == b"486\n")

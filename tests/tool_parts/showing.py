@@ -1,7 +1,5 @@
-"""dted info, post and relief: what they print of a cell, and that none of a refused one."""
-import os
+"""dted info and post: what they print of a cell, and that no command prints any of a refused one."""
 import random
-import subprocess
 
 from running import ROOT, filled, fresh, height, named, run, same, second_writer, stored, told, with_height
 
@@ -48,8 +46,9 @@ def info(folder):
     for row in ("south-west corner             46N 7E", "vertical datum                E96", "accuracy                      not available",
                 "relative vertical accuracy    not available", "posts                         14641"):
         same(f"info: {row}", 1, terrain.count(f"\n  {row}\n"))
-    west = run("info", ROOT / "cells/west_180.dt0").stdout.decode()
-    same("info: a corner in the west", 1, west.count("south-west corner             0N 180W\n"))
+    for name, corner in (("west_180", "0N 180W"), ("north_89", "89N 0E")):
+        rows = run("info", ROOT / f"cells/{name}.dt0").stdout.decode()
+        same(f"info: the corner {corner}", 1, rows.count(f"south-west corner             {corner}\n"))
 
 
 def posts():
@@ -80,41 +79,7 @@ def of_refused_cells(folder):
         told(f"{words[0]} of a folder", words, errors=f"dted: {empty}: Is a directory\n", status=2)
 
 
-def relief(folder):
-    """The picture of the README, byte for byte, and others."""
-    terrain, out = ROOT / "cells/terrain.dt0", folder / "out.pgm"
-    told("relief", ("relief", terrain, out, "2"))
-    picture = out.read_bytes()
-    same("the picture that is shipped", (ROOT / "docs/relief.png").read_bytes(),
-         subprocess.run([str(ROOT / "tools/png"), "4"], input=picture, stdout=subprocess.PIPE).stdout)
-    told("relief on standard output", ("relief", "-", "-", "2.0"), picture, input=terrain.read_bytes())
-    told("relief over another file", ("relief", ROOT / "cells/void_in_partial.dt0", out))
-    small = out.read_bytes()
-    same("its heading", b"P5\n21 121\n255\n", small[:14])
-    same("its pixels, and the black ones", (21 * 121, [20]), (len(small) - 14, [i for i, p in enumerate(small[14:]) if p == 0]))
-    same("once as steep", False, run("relief", terrain, "-").stdout == picture)
-    for word in ("0", "-1", "nan", "inf", "-inf", "1e999", "1e-999", "2x", "", "x"):
-        told(f"relief, {word} times", ("relief", terrain, out, word), errors=f"dted: {word}: not a number above 0\n", status=2)
-    for word in ("1e308", "1e-300"):
-        drawn = run("relief", terrain, "-", word)
-        same(f"relief, {word} times", (len(picture), 0), (len(drawn.stdout), drawn.returncode))
-    copy = filled(folder / "copy.dt0", terrain.read_bytes())
-    (folder / "link.pgm").symlink_to("copy.dt0")
-    for word in ("copy.dt0", "link.pgm"):
-        told(f"relief over its own cell, as {word}", ("relief", copy, folder / word),
-             errors=f"dted: {folder / word}: this is the cell itself\n", status=2)
-    with open(copy, "rb") as file:
-        told("relief over standard input", ("relief", "-", copy), errors=f"dted: {copy}: this is the cell itself\n", status=2, stdin=file)
-    same("the cell stays", terrain.read_bytes(), copy.read_bytes())
-    told("relief into no folder", ("relief", terrain, folder / "no/out.pgm"), status=2,
-         errors=f"dted: {folder}/no/out.pgm: No such file or directory\n")
-    told("relief on a full device", ("relief", terrain, "/dev/full"), errors="dted: /dev/full: No space left on device\n", status=2)
-    for name in ("out.pgm", "copy.dt0", "link.pgm"):
-        os.unlink(folder / name)
-
-
 def test(folder):
     info(folder)
     posts()
     of_refused_cells(folder)
-    relief(folder)

@@ -1,7 +1,8 @@
-"""Words that are no command, or too many, or too few; options, of which there are none."""
-from running import ROOT, told
+"""Words that are no command, or too many, or too few; and the only option, which asks for the usage."""
+from running import ROOT, filled, told
 
-USAGE = """usage: dted --help | --version
+USAGE = """usage: dted [COMMAND] -h | --help
+       dted --version
        dted check FILE..
        dted info FILE
        dted post FILE COLUMN POST
@@ -10,21 +11,44 @@ USAGE = """usage: dted --help | --version
        dted relief FILE OUT.pgm [TIMES]
 """
 VERSION = (ROOT / "VERSION").read_text()
+HELP = ("-h", "--help")
 
 
-def test():
+def asked_for(command, row):
+    """The usage of one command, alone and before other words."""
+    for words in (("-h",), ("--help",), ("-h", "x", "x"), ("--help", "-x", "--")):
+        told(f"{command} {words}", (command, *words), f"usage: dted {command} {row}\n")
+    for word in ("-help", "--hel", "--helps", "-hh"):
+        told(f"{command} {word}", (command, word), errors=f"dted: {word}: no such option\n", status=2)
+
+
+def behind_files(folder):
+    """Asked for behind a file, where another file may stand; behind -- the same words are files."""
+    for word in HELP:
+        told(f"check FILE {word}", ("check", "/dev/null", word), "usage: dted check FILE..\n")
+        told(f"info FILE {word}", ("info", "/dev/null", word), errors="usage: dted info FILE\n", status=2)
+        told(f"{word} as a number", ("post", "/dev/null", word, 1), errors=f"dted: {word}: not a whole number of up to 64 bits\n", status=2)
+        filled(folder / word, b"")
+        told(f"the file {word}", ("check", "--", word), f"{word}: refused 1: fewer bytes than the headers have (length 0)\n", status=1,
+             cwd=folder)
+
+
+def test(folder):
     told("no word", (), errors=USAGE, status=2)
-    told("help", ("--help",), USAGE)
+    for word in HELP:
+        told(word, (word,), USAGE)
     told("the version", ("--version",), f"dted {VERSION}")
     for word in ("chec", "--halp", "-", "--", "", "--version=1"):
         told(f"the command '{word}'", (word,), errors=f"dted: {word}: no such command\n", status=2)
-    for word in ("--help", "--version"):
+    for word in (*HELP, "--version"):
         told(f"{word} and more", (word, "x"), errors=f"dted: {word}: no such command\n", status=2)
-    rows = dict(line.split("dted ")[1].split(" ", 1) for line in USAGE.splitlines()[1:])
+    rows = dict(line.split("dted ")[1].split(" ", 1) for line in USAGE.splitlines()[2:])
     for command, least, most in (("check", 1, None), ("info", 1, 1), ("post", 3, 3), ("at", 3, 3), ("set", 4, 4), ("relief", 2, 3)):
         for count in {0, least - 1, most and most + 1} - {None}:
             told(f"{command} with {count} words", (command, *["1"] * count), errors=f"usage: dted {command} {rows[command]}\n", status=2)
+        asked_for(command, rows[command])
         told(f"{command} with an option", (command, "-x", *["1"] * 3), errors="dted: -x: no such option\n", status=2)
         told(f"{command} and --, alone", (command, "--"), errors=f"usage: dted {command} {rows[command]}\n", status=2)
     told("an option behind a file", ("check", "/dev/null", "--year"), errors="dted: --year: no such option\n", status=2)
+    behind_files(folder)
     told("a picture with a dash", ("relief", "/dev/null", "-x"), errors="dted: -x: no such option\n", status=2)
