@@ -8,6 +8,18 @@
 # what a failed command leaves is not taken for made
 .DELETE_ON_ERROR:
 
+# ---- words of the caller ----
+
+# of the command line alone: some systems export such names
+CPU :=
+MACHINE :=
+
+# words stand in lines of make and of the shell as they are: one that would be taken apart there is refused before anything is done
+SIGNS := & | ; < > ( ) [ ] { } * ? % \# $$ \ " ' `
+taken_apart = $(strip $(filter-out 1,$(words x$($(1))x)) $(foreach sign,$(SIGNS),$(findstring $(sign),$($(1)))))
+$(foreach name,PREFIX BINDIR LIBDIR INCLUDEDIR MANDIR DESTDIR ARCHIVE INTAKE DIST CELL CPU MACHINE,\
+	$(if $(call taken_apart,$(name)),$(error $(name) may have no blank and none of $(SIGNS) in it: '$($(name))')))
+
 check:
 	@tools/check
 
@@ -38,34 +50,34 @@ run: $(PROGRAM)
 
 # ---- the archive ----
 
-# words of the command line alone: some systems export such names
-CPU :=
-MACHINE :=
+FOR_MACHINE := $(or $(MACHINE),x86_64)
 ifeq ($(MACHINE)$(CPU),)
-lib: $(PLAIN)
+MADE := $(PLAIN)
 else
-OTHER := target/lib/libdted$(MACHINE:%=-%)$(CPU:%=-%).a
-lib: $(OTHER)
-$(OTHER): $(PLAIN)
-	tools/native $@ $(or $(MACHINE),x86_64) $(CPU)
+MADE := target/lib/libdted$(MACHINE:%=-%)$(CPU:%=-%).a
+$(MADE): $(PLAIN)
+	tools/native $@ $(FOR_MACHINE) $(CPU)
 endif
 
-# another archive is taken as it is, without the kit: ARCHIVE=path
-ARCHIVE ?= $(PLAIN)
+lib: $(MADE)
 
-# what programs are linked with: as new as its bytes, so that another archive is seen, and the same one made again is not
+# what programs are linked with, and what is installed: the archive that is made, or another one, taken as it is without the kit:
+# ARCHIVE=path. It is as new as its bytes, so that another archive is seen, and the same one made again is not
 LINKED := target/link/libdted.a
-$(LINKED): $(ARCHIVE) FORCE
-	@cmp -s $< $@ || install -D -m 644 $< $@
+$(LINKED): $(if $(ARCHIVE),,$(MADE)) FORCE
+	@cmp -s $(or $(ARCHIVE),$(MADE)) $@ || install -D -m 644 $(or $(ARCHIVE),$(MADE)) $@
 
 # ---- what a C compiler makes of it ----
 
-# the archive is for x86-64 alone: elsewhere a cross compiler makes the programs, and tools/x86-64 runs them
-ifneq ($(shell uname -m),x86_64)
-CC = x86_64-linux-gnu-gcc
+# where CC names none, the compiler for the archive's machine; where that is not the one at hand, tools/x86-64 runs the programs
+ifeq ($(origin CC),default)
+ifneq ($(shell uname -m),$(FOR_MACHINE))
+CC = $(FOR_MACHINE)-linux-gnu-gcc
+endif
 endif
 CFLAGS ?= -O2
-STRICT := -std=c99 -Wall -Wextra -Wpedantic -Werror
+# the headers of this tree go before those that CPPFLAGS may lead to
+COMPILE = $(CC) -std=c99 -Wall -Wextra -Wpedantic -Iinclude $(CPPFLAGS) $(CFLAGS) $(LDFLAGS)
 HEADERS := $(wildcard include/*.h)
 VERSION := $(shell cat VERSION)
 
@@ -76,11 +88,11 @@ SHARED := target/shared/libdted.so.$(VERSION)
 shared: $(SHARED)
 
 # no name but the calls is seen from outside, and none but the C library's is looked for there
-$(SHARED): $(LINKED) VERSION
+$(SHARED): $(LINKED)
 	@mkdir -p $(@D)
 	@rm -f target/shared/libdted.so*
 	@echo '{ global: dted_*; local: *; };' >target/shared/names
-	$(CC) -shared -nostartfiles -Wl,-soname,libdted.so.$(SOVERSION) -Wl,--version-script,target/shared/names -Wl,-z,defs \
+	$(CC) $(LDFLAGS) -shared -nostartfiles -Wl,-soname,libdted.so.$(SOVERSION) -Wl,--version-script,target/shared/names -Wl,-z,defs \
 		-Wl,--whole-archive $(LINKED) -Wl,--no-whole-archive -o $@
 	@ln -s libdted.so.$(VERSION) target/shared/libdted.so.$(SOVERSION)
 	@ln -s libdted.so.$(SOVERSION) target/shared/libdted.so
@@ -89,13 +101,13 @@ tool: target/tool/dted
 
 target/tool/dted: $(wildcard tool/*) $(HEADERS) $(LINKED)
 	@mkdir -p $(@D)
-	$(CC) $(STRICT) $(CFLAGS) -Iinclude $(filter %.c,$^) $(LINKED) -lm -o $@
+	$(COMPILE) $(filter %.c,$^) $(LINKED) -lm -o $@
 
 examples: target/examples/judge target/examples/write
 
 target/examples/%: examples/%.c examples/files.h $(HEADERS) $(LINKED)
 	@mkdir -p $(@D)
-	$(CC) $(STRICT) $(CFLAGS) -Iinclude $< $(LINKED) -o $@
+	$(COMPILE) $< $(LINKED) -o $@
 
 picture: target/tool/dted
 	tools/x86-64 $< relief cells/terrain.dt0 target/relief.pgm 2
@@ -111,12 +123,13 @@ MANDIR ?= $(PREFIX)/share/man
 PKGDIR := $(LIBDIR)/pkgconfig
 CMAKEDIR := $(LIBDIR)/cmake/dted
 
-# the intake program: INTAKE=path, or the one made here; without the kit that one is taken where no source of it is newer
-ifeq ($(ARCHIVE),$(PLAIN))
-INTAKE ?= $(PROGRAM)
-else
-INTAKE ?= $(shell [ ! -x $(PROGRAM) ] || [ "$$(find $(INTAKE_SOURCES) -prune -newer $(PROGRAM))" ] || echo $(PROGRAM))
+# the intake program: INTAKE=path, taken as it is, or beside the plain archive the one that is made here; without the kit that one is
+# taken where it is there and no source of it is newer
+ifeq ($(INTAKE)$(ARCHIVE)$(MACHINE)$(CPU),)
+STALE = [ ! -x $(PROGRAM) ] || [ "$$(find $(INTAKE_SOURCES) -prune -newer $(PROGRAM))" ]
+OWN_INTAKE := $(shell ! command -v rt >/dev/null && { $(STALE); } || echo $(PROGRAM))
 endif
+TAKEN_INTAKE := $(INTAKE)$(OWN_INTAKE)
 
 # each function of the headers, but for their own, which end in _, has the library's manual page under its name too
 FUNCTIONS := ${shell sed -nE 's/^[A-Za-z][A-Za-z0-9_ *]*[ *](dted_[a-z0-9_]*[a-z0-9])\(.*/\1/p' $(HEADERS)}
@@ -132,12 +145,13 @@ FILL = sed -e 's|@VERSION@|$(VERSION)|g' -e 's|@SOVERSION@|$(SOVERSION)|g' -e 's
 	-e 's|@LIBDIR@|$(call under_prefix,$(LIBDIR))|' -e 's|@INCLUDEDIR@|$(call under_prefix,$(INCLUDEDIR))|' \
 	-e "s|@INCLUDE_FROM_HERE@|$$(realpath -m --relative-to=$(CMAKEDIR) $(INCLUDEDIR))|"
 PUT = install -m 644 /dev/stdin
+LEFT_OUT := 'dted-intake is left out: INTAKE=path gives it'
 
-install: $(ARCHIVE) $(INTAKE) shared tool
+install: shared tool $(OWN_INTAKE)
 	install -d $(sort $(dir $(INSTALLED:%=$(DESTDIR)%)))
 	install -m 755 target/tool/dted $(DESTDIR)$(BINDIR)/dted
-	$(if $(INTAKE),install -m 755 $(INTAKE) $(DESTDIR)$(BINDIR)/dted-intake,@echo 'dted-intake is left out: INTAKE=path gives it')
-	install -m 644 $(ARCHIVE) $(DESTDIR)$(LIBDIR)/libdted.a
+	$(if $(TAKEN_INTAKE),install -m 755 $(TAKEN_INTAKE) $(DESTDIR)$(BINDIR)/dted-intake,@echo $(LEFT_OUT))
+	install -m 644 $(LINKED) $(DESTDIR)$(LIBDIR)
 	install -m 644 $(SHARED) $(DESTDIR)$(LIBDIR)
 	cp -P target/shared/libdted.so target/shared/libdted.so.$(SOVERSION) $(DESTDIR)$(LIBDIR)
 	install -m 644 $(HEADERS) $(DESTDIR)$(INCLUDEDIR)
@@ -157,10 +171,12 @@ uninstall:
 # the sources, and what is installed from without the kit; DIST=folder takes them elsewhere
 DIST ?= dist
 
+# what was made with other words of the caller is made anew
 dist:
-	@rm -rf target/dist
+	@git ls-files --error-unmatch VERSION >/dev/null || { echo 'dist: it needs the repository: it packs what git tracks' >&2; exit 1; }
+	@rm -rf target/dist target/shared target/tool
 	@$(MAKE) -s install DESTDIR=target/dist/ PREFIX=@PREFIX@
-	@tools/dist target/dist $(firstword $(subst -, ,$(shell $(CC) -dumpmachine))) $(DIST)
+	@tools/dist target/dist $(firstword $(subst -, ,$(shell $(CC) -dumpmachine)))$(CPU:%=-%) $(DIST)
 
 # ---- tests of the C library ----
 

@@ -31,12 +31,21 @@ with_cmake() { # WHAT TARGET
     rm -rf "$work/cmake"
 }
 
-# What CMake says of a request for a version.
-asked_for() { # VERSION
-    printf '%s\n' 'cmake_minimum_required(VERSION 3.13)' 'project(asks NONE)' "find_package(dted $1 REQUIRED)" \
-        >"$work/CMakeLists.txt"
+# What CMake says of a request for a version, made twice as by two parts of a project, and of the folder of the headers.
+asked_for() { # VERSION [PREFIX]
+    cat >"$work/CMakeLists.txt" <<END
+cmake_minimum_required(VERSION 3.13)
+project(asks NONE)
+find_package(dted $1 REQUIRED)
+find_package(dted $1 REQUIRED)
+get_target_property(folder dted::dted INTERFACE_INCLUDE_DIRECTORIES)
+get_filename_component(folder "\${folder}" ABSOLUTE)
+if(NOT EXISTS "\${folder}/dted.h")
+  message(FATAL_ERROR "there is no header in \${folder}")
+endif()
+END
     rm -rf "$work/asks"
-    cmake -S "$work" -B "$work/asks" -DCMAKE_PREFIX_PATH="$there"
+    cmake -S "$work" -B "$work/asks" -DCMAKE_PREFIX_PATH="${2:-$there}"
 }
 
 # Uninstalls; no file may be left, and no folder of the library's own.
@@ -60,7 +69,8 @@ same 'the functions that dted.3 declares' "$functions" \
     "$(sed -n '/^\.Sh SYNOPSIS/,/^\.Sh DESCRIPTION/s/^\.F[on] \(dted_[a-z0-9_]*\).*/\1/p' man/dted.3 | sort)"
 
 # ---- with one prefix ----
-good 'install' make install DESTDIR="$stage" PREFIX="$prefix"
+good 'install' bash -c 'umask 077 && make install DESTDIR="$1" PREFIX="$2"' - "$stage" "$prefix"
+same 'what not all may read' '' "$(odd_modes "$there")"
 good 'install once more' make install DESTDIR="$stage" PREFIX="$prefix"
 same 'installed files' "$due" "$(cd "$there" && find . ! -type d -printf '%P\n' | sort)"
 same 'files that name the stage' '' "$(grep -rlF "$stage" "$stage")"
@@ -69,6 +79,9 @@ same 'files with a place to fill' '' "$(grep -rlE '@[A-Z_]+@' "$stage")"
 for module in dted dted-shared; do
     same "the version in $module.pc" "$version" "$(config $module --modversion)"
 done
+cp -r "$there" "$work/moved"
+same 'the words for a tree that was moved' "-I$work/moved/include -L$work/moved/lib -l:libdted.a" \
+    "$(PKG_CONFIG_LIBDIR=$work/moved/lib/pkgconfig pkg-config --define-prefix --cflags --libs dted | sed 's/ *$//')"
 for compiler in "$cc" $second; do
     built=yes
     for name in judge write; do
@@ -83,6 +96,10 @@ good "the README's example" build "$cc" dted "$work/readme.c" "$work/readme" &&
     same "the README's example, run" 486 "$(tools/x86-64 "$work/readme" <cells/terrain.dt0)"
 good "the README's example, shared" build "$cc" dted-shared "$work/readme.c" "$work/readme" &&
     same "the README's example, shared, run" 486 "$(LD_LIBRARY_PATH=$there/lib tools/x86-64 "$work/readme" <cells/terrain.dt0)"
+# shellcheck disable=SC2046
+good "the README's example in C++" "$cxx" -std=c++11 -Wall -Wextra -Wpedantic -Werror -x c++ "$work/readme.c" -x none \
+    $(config dted --cflags --libs) -o "$work/readme" &&
+    same "the README's example in C++, run" 486 "$(tools/x86-64 "$work/readme" <cells/terrain.dt0)"
 for header in dted dted_words; do
     # shellcheck disable=SC2046
     good "$header.h in C++" "$cxx" -std=c++11 -Wall -Wextra -Wpedantic -Werror $(config dted --cflags) -fsyntax-only \
@@ -92,6 +109,9 @@ with_cmake 'CMake' dted::dted
 with_cmake 'CMake, shared' dted::shared
 good 'CMake asks for this version' asked_for "$version"
 good 'CMake asks for its first two numbers' asked_for "$soversion"
+good 'CMake asks for this version and no other' asked_for "$version EXACT"
+mkdir "$work/linked" && ln -s "$there/lib" "$work/linked"
+good 'CMake finds it by a link' asked_for "$version" "$work/linked"
 bad 'CMake asks for other calls' 'considered but not accepted' asked_for "${soversion%.*}.$((${soversion#*.} - 1))"
 bad 'CMake asks for a later version' 'considered but not accepted' asked_for "${version%.*}.$((${version##*.} + 1))"
 
@@ -121,17 +141,6 @@ if [ "$(uname -m)" = x86_64 ]; then
     same "the README's lines of the tool" "$(cat "$work/session")" "$(cd "$work/as_shown" && PATH=$there/bin:$PATH &&
         sed -n 's/^\$ //p' "$work/session" | while read -r line; do echo "\$ $line" && bash -c "$line"; done 2>&1)"
     good 'the README shows six commands' [ "$(grep -c '^\$ dted' "$work/session")" -eq 6 ]
-fi
-
-# ---- the lines of docs/MANY.md that need one machine, as the page has them ----
-if [ "$(uname -m)" = x86_64 ]; then
-    mkdir "$work/many" && cp -r cells "$work/many"
-    sed -n '/^```sh$/,/^```$/{/^```/!p}' docs/MANY.md | grep -v parallel >"$work/many/script"
-    (cd "$work/many" && PATH=$there/bin:$PATH bash -e <(sed 's/>lines 2>unread$/& || [ $? = 123 ]/' script))
-    same 'docs/MANY.md, the status where refusals are no failure' 0 $?
-    same 'docs/MANY.md, the lines' "$(find cells -name '*.dt?' | wc -l)" "$(grep -c . "$work/many/lines")"
-    same 'docs/MANY.md, the refused cells' "$(grep -l '^refused' cells/*.line | sed 's/\.line$//')" \
-        "$(sed 's/\.dt.$//' "$work/many/refused" | sort)"
 fi
 
 # ---- manual pages ----

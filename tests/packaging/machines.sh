@@ -15,12 +15,12 @@ machine_of() { # ARCHIVE
     readelf -h "$1" | sed -n 's/.*Machine: *//p'
 }
 
-if [ "$ARCHIVE" = target/staticlib/libdted.a ]; then
+if [ "$archive" = "$own" ]; then
     lib_for x86_64 MACHINE=x86_64
-    good 'for x86-64 it is the plain archive' cmp "$made" "$ARCHIVE"
+    good 'for x86-64 it is the plain archive' cmp "$made" "$archive"
     lib_for x86-64-v3 CPU=x86-64-v3
     good 'its code has what that processor has' grep -q '%ymm' <("$objdump" -d "$made")
-    good 'the plain code has not' [ -z "$("$objdump" -d "$ARCHIVE" | grep '%ymm')" ]
+    good 'the plain code has not' [ -z "$("$objdump" -d "$archive" | grep '%ymm')" ]
     # a processor that no other suite asks for at the same time
     lib_for haswell CPU=haswell
     times=$(stat -c %y "$made" target/native/module.ll)
@@ -34,4 +34,17 @@ if [ "$ARCHIVE" = target/staticlib/libdted.a ]; then
     refuses_words nonsense "unknown target CPU 'nonsense'" CPU=nonsense
     refuses_words aarch64-nonsense "unsupported argument 'nonsense'" MACHINE=aarch64 CPU=nonsense
     refuses_words nonsense "'nonsense' is no machine" MACHINE=nonsense
+
+    # ---- installed and packed ----
+    good 'install MACHINE=aarch64' make install MACHINE=aarch64 DESTDIR="$stage" PREFIX="$prefix"
+    same 'install MACHINE=aarch64, the intake program' "1 $(grep -v '^bin/dted-intake$' <<<"$due")" \
+        "$(grep -c 'dted-intake is left out' "$work/log") $(cd "$there" && find . ! -type d -printf '%P\n' | sort)"
+    for file in lib/libdted.a lib/libdted.so bin/dted; do
+        same "install MACHINE=aarch64, the machine of $file" AArch64 "$(machine_of "$there/$file")"
+    done
+    good 'dist CPU=x86-64-v3' make -s dist CPU=x86-64-v3 DIST="$work/v3"
+    same 'dist CPU=x86-64-v3, the intake program' 1 "$(grep -c 'dted-intake is left out' "$work/log")"
+    good 'its archive is for that processor' cmp target/lib/libdted-x86-64-v3.a \
+        <(tar -xzOf "$work/v3/dted-$version-x86_64-x86-64-v3-linux.tar.gz" "dted-$version-x86_64-x86-64-v3-linux/lib/libdted.a")
+    rm -rf "$stage"
 fi

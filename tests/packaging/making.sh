@@ -91,7 +91,35 @@ good 'the tool, of another archive' in_tree make tool shared ARCHIVE="$work/othe
 good 'an older archive is linked' [ "$before" != "$(linked)" ]
 same 'of its names one is seen from outside' dted_none "$(names "$tree/target/shared/libdted.so" -D --defined-only | grep none)"
 edit crates/octets/src/lib.rt
-good 'install of that archive' in_tree make install DESTDIR="$stage" PREFIX="$prefix" ARCHIVE="$work/other.a"
-same 'a program that is older than its sources' 1 "$(grep -cF 'dted-intake is left out' "$work/log")"
-same 'install of that archive: what rt is asked' '' "$asked"
 rm -rf "$stage"
+asks 'install of that archive' '' make install DESTDIR="$stage" PREFIX="$prefix" ARCHIVE="$work/other.a"
+touch "$tree/target/bin/intake"
+good 'install of that archive once more' in_tree make install DESTDIR="$stage" PREFIX="$prefix" ARCHIVE="$work/other.a"
+same 'the plain program is not beside it' '1, 0' \
+    "$(grep -cF 'dted-intake is left out' "$work/log"), $(find "$stage" -name dted-intake | wc -l)"
+rm -rf "$stage"
+echo 'int dted_needs_more(void); int dted_more(void) { return dted_needs_more(); }' | "$cc" -c -x c - -o "$work/none.o"
+"${nm%nm}ar" rc "$work/other.a" "$work/none.o"
+bad 'an archive that needs more' dted_needs_more in_tree make shared ARCHIVE="$work/other.a"
+good 'an archive that needs more: nothing is left' [ ! -e "$tree/target/shared/libdted.so.$version" ]
+
+# ---- what else a program is made anew for ----
+made_anew() { # PROGRAM FILE
+    local before
+    before=$(stat -c %y "$tree/target/$1")
+    [ -z "$2" ] || edit "$2"
+    in_tree make "${1%/*}" ARCHIVE="$work/given.a" >/dev/null 2>&1
+    [ "$before" = "$(stat -c %y "$tree/target/$1")" ] && echo no || echo yes
+}
+good 'all programs' in_tree make tool examples ARCHIVE="$work/given.a"
+for file in '' include/dted.h include/dted_words.h; do
+    for program in tool/dted examples/judge; do
+        same "$program after an edit of '$file'" "$([ -z "$file" ] && echo no || echo yes)" "$(made_anew $program "$file")"
+    done
+done
+same 'the tool after an edit of tool/say.h' yes "$(made_anew tool/dted tool/say.h)"
+echo 9.8.7 >"$tree/VERSION"
+good 'the shared library of another version' in_tree make shared ARCHIVE="$work/given.a"
+same 'its files' 'libdted.so libdted.so.9.8 libdted.so.9.8.7' "$(cd "$tree/target/shared" && echo libdted.so*)"
+same 'its soname' libdted.so.9.8 "$(readelf -dW "$tree/target/shared/libdted.so" | sed -n 's/.*(SONAME).*\[\(.*\)\]/\1/p')"
+echo "$version" >"$tree/VERSION"
