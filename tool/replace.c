@@ -53,7 +53,8 @@ static bool hand_over(int descriptor, const struct stat *like) {
     return errno == EPERM && (fchown(descriptor, (uid_t)-1, like->st_gid) == 0 || errno == EPERM);
 }
 
-/* Fills a new file, like the old one but for its bytes, and has the disk take it. The mode after the owner, which takes bits of it. */
+/* Fills a new file, like the old one but for its bytes, and has the disk take it. A new owner takes bits from the mode: it comes
+ * after. */
 static bool fill(int descriptor, const struct stat *like, const uint8_t *bytes, size_t length) {
     return hand_over(descriptor, like) && fchmod(descriptor, like->st_mode & 07777) == 0 && write_all(descriptor, bytes, length) &&
            fsync(descriptor) == 0;

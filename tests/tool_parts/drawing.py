@@ -44,7 +44,8 @@ def drawn(cell, latitude, times):
 
 def pixels():
     """In the north and the south, where columns are fewer than posts; the last bit of a cosine may make one of difference."""
-    for name, latitude, times, voids in (("terrain.dt0", 46, 1, ()), ("void_in_partial.dt0", 89, 0.5, VOIDS), ("every_item.dt0", -71, 3, VOIDS)):
+    for name, latitude, times, voids in (("terrain.dt0", 46, 1, ()), ("void_in_partial.dt0", 89, 0.5, VOIDS),
+                                         ("every_item.dt0", -71, 3, VOIDS)):
         cell = stored(name)[0]
         for column, post in voids:
             cell = with_height(cell, column, post, None)
@@ -52,7 +53,8 @@ def pixels():
         got = list(picture[len(picture) - len(due):])
         _, _, columns, posts = second_writer.grid(0, latitude)
         same(f"the heading of {name}", f"P5\n{columns} {posts}\n255\n".encode(), picture[:len(picture) - len(due)])
-        same(f"pixels of {name} that differ", [], [n for n, (a, b) in enumerate(zip(due, got)) if abs(a - b) > 1 or (a == 0) != (b == 0)])
+        differ = [n for n, (a, b) in enumerate(zip(due, got)) if abs(a - b) > 1 or (a == 0) != (b == 0)]
+        same(f"pixels of {name} that differ", [], differ)
 
 
 def shipped(folder):
@@ -73,7 +75,8 @@ def shipped(folder):
 
 def factors(folder):
     for word in ("0", "-1", "nan", "inf", "-inf", "1e999", "1e-999", "2x", "", "x"):
-        told(f"relief, {word} times", ("relief", TERRAIN, folder / "out.pgm", word), errors=f"dted: {word}: not a number above 0\n", status=2)
+        told(f"relief, {word} times", ("relief", TERRAIN, folder / "out.pgm", word), status=2,
+             errors=f"dted: {word}: not a number above 0\n")
     same("nothing is drawn", [], named(folder))
     length = len(run("relief", TERRAIN, "-").stdout)
     for word in ("1e308", "1e-300"):

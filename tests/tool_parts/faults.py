@@ -57,7 +57,7 @@ def failures(folder):
     data, log = stored("north_89.dt0")[0], fresh(folder, "log")
     cell = filled(folder / "cell.dt0", data)
     for inject, why in (("flock:error=ENOLCK", "No locks available"), ("fchmod:error=EROFS", "Read-only file system"),
-                        ("fchown:error=EIO", "Input/output error"), ("fsync:error=EIO:when=1", "Input/output error"),
+                        ("fchown:error=EIO:when=1", "Input/output error"), ("fsync:error=EIO:when=1", "Input/output error"),
                         ("write:error=ENOSPC:when=1", "No space left on device"), ("rename:error=EACCES", "Permission denied")):
         told(f"set where {inject}", ("set", cell, 1, 2, 3), errors=f"dted: {cell}: {why}\n", status=2,
              under=strace(log, "-e", f"inject={inject}"))
@@ -77,7 +77,8 @@ def not_given_away(folder):
     cell = filled(folder / "cell.dt0", data)
     told("set where the owner is not allowed", ("set", cell, 1, 2, 3), f"{cell}: column 1, post 2: {height(data, 1, 2)}, now 3\n",
          under=strace(log, "-e", "trace=fchown", "-e", "inject=fchown:error=EPERM:when=1"))
-    same("what is asked for then", [f"-1, {os.stat(cell).st_gid}"], re.findall(r"fchown\(\d+, (.*)\) += 0", "\n".join(calls(log, "fchown"))))
+    allowed = re.findall(r"fchown\(\d+, (.*)\) += 0", "\n".join(calls(log, "fchown")))
+    same("what is asked for then", [f"-1, {os.stat(cell).st_gid}"], allowed)
     if os.geteuid() == 0:
         os.chown(cell, OWNER, GROUP)
         os.chmod(cell, 0o666)

@@ -57,7 +57,7 @@ def many_waits(folder):
     waiting = subprocess.Popen(command("set", cell, 1, 2, 3), stdout=subprocess.PIPE, stderr=subprocess.PIPE, preexec_fn=few_descriptors)
     for turn in range(30):
         await_open(waiting, held)
-        with held:
+        with held:  # until the new one is in its place
             held = locked(new, with_height(data, 5, 5, turn))
             new.rename(cell)
     await_open(waiting, held)

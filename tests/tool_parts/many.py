@@ -112,13 +112,14 @@ def progress(folder, lines):
 
 
 def for_a_while(folder):
-    """Files that come in for more than a second, their lines elsewhere: the count is shown ten times a second and wiped once."""
-    pipes = [folder / f"pipe {n}" for n in range(40)]
+    """Files that come in for more than a second, their lines elsewhere: the count is shown ten times a second, and wiped for a reason
+    alone."""
+    pipes, missing = [folder / f"pipe {n}" for n in range(40)], folder / "missing"
     slowly(pipes, 0.03)
-    text, seconds = on_terminal(("check", *pipes), False)
-    shown = text.count(" of 40, ")
+    text, seconds = on_terminal(("check", *pipes, missing), False)
+    shown = text.count(" of 41, ")
     same(f"shown ten times a second ({shown} in {seconds} s)", True, 8 <= shown <= 10 * seconds + 1)
-    same("wiped at the end alone", ([""], 1), (screen(text), len(re.findall("\r +\r", text))))
+    same("what follows where it is wiped", [f"dted: {missing}: No such file or directory\r\n"], re.split("\r +\r", text)[1:])
 
 
 def test(folder):

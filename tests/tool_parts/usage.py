@@ -27,7 +27,8 @@ def behind_files(folder):
     for word in HELP:
         told(f"check FILE {word}", ("check", "/dev/null", word), "usage: dted check FILE..\n")
         told(f"info FILE {word}", ("info", "/dev/null", word), errors="usage: dted info FILE\n", status=2)
-        told(f"{word} as a number", ("post", "/dev/null", word, 1), errors=f"dted: {word}: not a whole number of up to 64 bits\n", status=2)
+        told(f"{word} as a number", ("post", "/dev/null", word, 1), status=2,
+             errors=f"dted: {word}: not a whole number of up to 64 bits\n")
         filled(folder / word, b"")
         told(f"the file {word}", ("check", "--", word), f"{word}: refused 1: fewer bytes than the headers have (length 0)\n", status=1,
              cwd=folder)
