@@ -10,10 +10,12 @@ if [ "$(uname -m)" = x86_64 ]; then
     mkdir -p "$work/many" "$work/none/cells" && cp -r cells "$work/many"
     cp cells/terrain.dt0 "$work/many/cells/N46.DT0"
     cp cells/terrain.dt0 "$work/many/cells/a: refused 3: b (offset 1).dt0"
+    cp cells/terrain.dt0 "$work/many/cells/a: refused 3: b.dt0"
     cp cells/empty.dt0 "$work/many/cells/c: accepted, d.dt0"
+    cp cells/empty.dt0 "$work/many/cells/e: refused 3: f.dt0"
     good 'docs/MANY.md, where refusals are no failure' as_written "$work/many"
     same 'docs/MANY.md, the lines' "$(find "$work/many/cells" -name '*.[dD][tT]?' | wc -l)" "$(grep -c . "$work/many/lines")"
-    same 'docs/MANY.md, the refused cells' "$({ grep -l '^refused' cells/*.line && echo 'cells/c: accepted, d.line'; } |
+    same 'docs/MANY.md, the refused cells' "$({ grep -l '^refused' cells/*.line && printf 'cells/%s.line\n' 'c: accepted, d' 'e: refused 3: f'; } |
         sed 's/\.line$//' | LC_ALL=C sort)" "$(sed 's/\.dt.$//' "$work/many/refused" | LC_ALL=C sort)"
     good 'docs/MANY.md, without cells' as_written "$work/none"
     same 'docs/MANY.md, without cells: what is said' '' "$(cat "$work/none/lines" "$work/none/unread")"

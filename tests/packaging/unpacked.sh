@@ -148,8 +148,9 @@ good 'the same commit in it' in_copy env GIT_COMMITTER_DATE="@$(git log -1 --for
     git -c user.name=other -c user.email=other commit -qm other
 good 'the tool in it, made otherwise' in_copy make -s tool CFLAGS=-O0
 good 'dist once more' in_copy make -s dist
+edits=$(grep -c edits "$work/log")
 same 'dist once more, its difference' '' "$(diff -r "$dist" "$copy/dist")"
-same 'dist says nothing of edits' 0 "$(grep -c edits "$work/log")"
+same 'dist says nothing of edits' 0 "$edits"
 in_copy mkdir -p 'target/small/@PREFIX@' && in_copy sed -i '$s/$/ /' README.md
 good 'dist with an edit' in_copy tools/dist target/small none target/none
 same 'dist says so' 1 "$(grep -c '^dist: there are edits' "$work/log")"
