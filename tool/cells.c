@@ -62,6 +62,14 @@ int take_cell(struct cell *cell, const char *name) {
     return judge_cell(cell, name);
 }
 
+int take_described(struct cell *cell, const char *name, int64_t items[DTED_ITEMS]) {
+    int status = take_cell(cell, name);
+    if (status != DONE)
+        return status;
+    dted_answer answer = dted_describe(cell->bytes, cell->length, items);
+    return dted_number(answer) == DTED_OK ? DONE : refused(cell, name, answer);
+}
+
 int height_of(const struct cell *cell, size_t column, size_t post) {
     const uint8_t *first = cell->bytes + DTED_HEADER_BYTES + column * dted_column_length(cell->grid) + DTED_PREAMBLE_BYTES;
     return dted_word_height(first + 2 * post);

@@ -18,6 +18,9 @@ struct cell {
 /* Reads a file and judges it. Where it cannot be read or is refused, that is told on standard error. */
 int take_cell(struct cell *cell, const char *name);
 
+/* The same, with the cell's description. */
+int take_described(struct cell *cell, const char *name, int64_t items[DTED_ITEMS]);
+
 /* Judges the bytes that are there; a refusal is told on standard error. */
 int judge_cell(struct cell *cell, const char *name);
 

@@ -86,12 +86,9 @@ static int post_rows(const struct cell *cell) {
 
 int info(struct cell *cell, char **words) {
     int64_t items[DTED_ITEMS];
-    int status = take_cell(cell, words[0]);
+    int status = take_described(cell, words[0], items);
     if (status != DONE)
         return status;
-    dted_answer answer = dted_describe(cell->bytes, cell->length, items);
-    if (dted_number(answer) != DTED_OK)
-        return refused(cell, words[0], answer);
     status = say(STDOUT_FILENO, "%s: %s\n", shown(words[0]), grid_words(cell->grid));
     if (status == DONE)
         status = corner_row(items);

@@ -85,12 +85,9 @@ int relief(struct cell *cell, char **words) {
         return TROUBLE;
     if (is_same_file(words[0], words[1]))
         return complain(TROUBLE, words[1], "this is the cell itself");
-    int status = take_cell(cell, words[0]);
+    int status = take_described(cell, words[0], items);
     if (status != DONE)
         return status;
-    dted_answer answer = dted_describe(cell->bytes, cell->length, items);
-    if (dted_number(answer) != DTED_OK)
-        return refused(cell, words[0], answer);
     double middle = ((double)items[DTED_LATITUDE] + 0.5) / radian;
     double north = degree / (dted_posts(cell->grid) - 1) / times;
     double east = degree * cos(middle) / (dted_columns(cell->grid) - 1) / times;
