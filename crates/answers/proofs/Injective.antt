@@ -1,9 +1,12 @@
 -- `told` is injective: what an answer tells gives the answer back, so a promise about what is told settles the answer.
-use Prim.Native.Nat.{ℕ}
+use Prim.Native.Nat.{ℕ, _<_}
 use mathlib.Core.Path.{_≡_, refl, sym, ap, _∙_}
 use mathlib.Core.List.{List, [], _∷_}
+use lib.Dec.{eqb, lit<}
+use lib.IntN.{ℤ}
 use lib.ListN.{getD}
-use Rattle.answers.specs.Told.{Told, refused, more, accepted, height, void, heightAt, voidAt, done, numbered, numberTold, placeTold, Kind, intake, post, position, act, Answer, told}
+use Rattle.octets.specs.Choice.{pick}
+use Rattle.answers.specs.Told.{Told, refused, said, valueAt, countAt, numbered, numberTold, placeTold, Kind, intake, post, position, act, Answer, told}
 use Rattle.answers.specs.declared.Refusal.{Refusal}
 use Rattle.answers.specs.declared.Refusal.the-variants as because
 use Rattle.answers.specs.declared.Verdict.the-variants as verdict
@@ -36,51 +39,48 @@ refusedAs post r = reading.Refused r
 refusedAs position r = located.Refused r
 refusedAs act r = outcome.Refused r
 
--- the answer of a kind that was told; what no answer of that kind tells gives some refusal
+-- the answer of a kind that says these values under this tag; a kind's last answer stands for every other tag
+abbrev saidAs : (k : Kind) → ℕ → List ℤ → Answer k
+saidAs intake tag values = pick (eqb tag 0) verdict.More (verdict.Accepted (countAt values 0) (countAt values 1) (countAt values 2))
+saidAs post tag values = pick (eqb tag 2) (reading.Height (valueAt values 0)) reading.Void
+saidAs position tag values =
+    pick (eqb tag 4)
+    (located.Height (countAt values 0) (countAt values 1) (valueAt values 2))
+    (located.Void (countAt values 0) (countAt values 1))
+saidAs act tag values = outcome.Done
+
+-- the answer of a kind that was told
 abbrev answerOf : Told → (k : Kind) → Answer k
 answerOf (refused number place) k = refusedAs k (getD (refusals place) number because.OffGrid)
-answerOf more intake = verdict.More
-answerOf more post = refusedAs post because.OffGrid
-answerOf more position = refusedAs position because.OffGrid
-answerOf more act = refusedAs act because.OffGrid
-answerOf (accepted level columns posts) intake = verdict.Accepted level columns posts
-answerOf (accepted level columns posts) post = refusedAs post because.OffGrid
-answerOf (accepted level columns posts) position = refusedAs position because.OffGrid
-answerOf (accepted level columns posts) act = refusedAs act because.OffGrid
-answerOf (height z) intake = refusedAs intake because.OffGrid
-answerOf (height z) post = reading.Height z
-answerOf (height z) position = refusedAs position because.OffGrid
-answerOf (height z) act = refusedAs act because.OffGrid
-answerOf void intake = refusedAs intake because.OffGrid
-answerOf void post = reading.Void
-answerOf void position = refusedAs position because.OffGrid
-answerOf void act = refusedAs act because.OffGrid
-answerOf (heightAt column number z) intake = refusedAs intake because.OffGrid
-answerOf (heightAt column number z) post = refusedAs post because.OffGrid
-answerOf (heightAt column number z) position = located.Height column number z
-answerOf (heightAt column number z) act = refusedAs act because.OffGrid
-answerOf (voidAt column number) intake = refusedAs intake because.OffGrid
-answerOf (voidAt column number) post = refusedAs post because.OffGrid
-answerOf (voidAt column number) position = located.Void column number
-answerOf (voidAt column number) act = refusedAs act because.OffGrid
-answerOf done intake = refusedAs intake because.OffGrid
-answerOf done post = refusedAs post because.OffGrid
-answerOf done position = refusedAs position because.OffGrid
-answerOf done act = outcome.Done
+answerOf (said tag values) k = saidAs k tag values
+
+-- a refusal tells a number of the list and a place, and nothing else; by these it is found in the list
+shown : (r : Refusal)
+    → (numbered r ≡ refused (numberTold (numbered r)) (placeTold (numbered r)))
+    × ((getD (refusals (placeTold (numbered r))) (numberTold (numbered r)) because.OffGrid ≡ r)
+    × ((0 < numberTold (numbered r)) × (numberTold (numbered r) < 256)))
+shown (because.Short n) = (refl, (refl, (lit< tt, lit< tt)))
+shown (because.Field n) = (refl, (refl, (lit< tt, lit< tt)))
+shown (because.Cut n) = (refl, (refl, (lit< tt, lit< tt)))
+shown (because.Preamble n) = (refl, (refl, (lit< tt, lit< tt)))
+shown (because.Checksum n) = (refl, (refl, (lit< tt, lit< tt)))
+shown (because.Word n) = (refl, (refl, (lit< tt, lit< tt)))
+shown (because.Surplus n) = (refl, (refl, (lit< tt, lit< tt)))
+shown because.OffGrid = (refl, (refl, (lit< tt, lit< tt)))
+shown (because.Item n) = (refl, (refl, (lit< tt, lit< tt)))
+shown (because.GridLength n) = (refl, (refl, (lit< tt, lit< tt)))
+shown (because.Height n) = (refl, (refl, (lit< tt, lit< tt)))
+shown (because.Room n) = (refl, (refl, (lit< tt, lit< tt)))
+
+pub refusal-told : (r : Refusal) → numbered r ≡ refused (numberTold (numbered r)) (placeTold (numbered r))
+refusal-told r = shown r .0
+
+-- every refusal has a number of 8 bits that is not 0
+pub number-ranged : (r : Refusal) → (0 < numberTold (numbered r)) × (numberTold (numbered r) < 256)
+number-ranged r = shown r .1 .1
 
 refused-back : (k : Kind) (r : Refusal) → answerOf (numbered r) k ≡ refusedAs k r
-refused-back k (because.Short n) = refl
-refused-back k (because.Field n) = refl
-refused-back k (because.Cut n) = refl
-refused-back k (because.Preamble n) = refl
-refused-back k (because.Checksum n) = refl
-refused-back k (because.Word n) = refl
-refused-back k (because.Surplus n) = refl
-refused-back k because.OffGrid = refl
-refused-back k (because.Item n) = refl
-refused-back k (because.GridLength n) = refl
-refused-back k (because.Height n) = refl
-refused-back k (because.Room n) = refl
+refused-back k r = ap (λ (t : Told). answerOf t k) (refusal-told r) ∙ ap (refusedAs k) (shown r .1 .0)
 
 told-back : (k : Kind) (a : Answer k) → answerOf (told k a) k ≡ a
 told-back intake verdict.More = refl
@@ -104,18 +104,3 @@ pub numbered-injective : (r s : Refusal) → numbered r ≡ numbered s → r ≡
 numbered-injective r s e =
     let same : outcome.Refused r ≡ outcome.Refused s = told-injective act (outcome.Refused r) (outcome.Refused s) e in
     cc
-
--- a refusal tells a number and a place, and nothing else
-pub refusal-told : (r : Refusal) → numbered r ≡ refused (numberTold (numbered r)) (placeTold (numbered r))
-refusal-told (because.Short n) = refl
-refusal-told (because.Field n) = refl
-refusal-told (because.Cut n) = refl
-refusal-told (because.Preamble n) = refl
-refusal-told (because.Checksum n) = refl
-refusal-told (because.Word n) = refl
-refusal-told (because.Surplus n) = refl
-refusal-told because.OffGrid = refl
-refusal-told (because.Item n) = refl
-refusal-told (because.GridLength n) = refl
-refusal-told (because.Height n) = refl
-refusal-told (because.Room n) = refl

@@ -1,6 +1,8 @@
 -- The numbers given back (rules N1 to N12), and what each answer tells: every promise of an entry point speaks through `told`.
 use Prim.Native.Nat.{ℕ}
-use lib.IntN.{ℤ}
+use mathlib.Core.List.{List, [], _∷_}
+use lib.IntN.{ℤ, pos, natAbs}
+use lib.ListN.{getD}
 use Rattle.answers.specs.declared.Refusal.{Refusal}
 use Rattle.answers.specs.declared.Refusal.the-variants as because
 use Rattle.answers.specs.declared.Verdict.{Verdict}
@@ -12,20 +14,44 @@ use Rattle.answers.specs.declared.Located.the-variants as located
 use Rattle.answers.specs.declared.Outcome.{Outcome}
 use Rattle.answers.specs.declared.Outcome.the-variants as outcome
 
--- what a call says
+-- what a call says: a refusal, by a number of the table and its place; or else a tag, and values
 pub data Told : Type 0 where
-  -- a number of the table, and its place
   refused : ℕ → ℕ → Told
-  -- the next piece is due
-  more : Told
-  -- level, columns, posts to a column
-  accepted : ℕ → ℕ → ℕ → Told
-  height : ℤ → Told
-  void : Told
-  -- column and post number, and the height or void there
-  heightAt : ℕ → ℕ → ℤ → Told
-  voidAt : ℕ → ℕ → Told
-  done : Told
+  said : ℕ → List ℤ → Told
+
+-- the next piece is due
+abbrev pub more : Told
+more = said 0 []
+
+-- level, columns, posts to a column
+abbrev pub acceptedTag : ℕ
+acceptedTag = 1
+
+abbrev pub accepted : ℕ → ℕ → ℕ → Told
+accepted level columns posts = said acceptedTag (pos level ∷ pos columns ∷ pos posts ∷ [])
+
+abbrev pub height : ℤ → Told
+height z = said 2 (z ∷ [])
+
+abbrev pub void : Told
+void = said 3 []
+
+-- column and post number, and the height or void there
+abbrev pub heightAt : ℕ → ℕ → ℤ → Told
+heightAt column post z = said 4 (pos column ∷ pos post ∷ z ∷ [])
+
+abbrev pub voidAt : ℕ → ℕ → Told
+voidAt column post = said 5 (pos column ∷ pos post ∷ [])
+
+abbrev pub done : Told
+done = said 6 []
+
+-- a value by its place among those said; one that counts something is never below 0
+abbrev pub valueAt : List ℤ → ℕ → ℤ
+valueAt values i = getD values i (pos 0)
+
+abbrev pub countAt : List ℤ → ℕ → ℕ
+countAt values i = natAbs (valueAt values i)
 
 -- N1 to N12: the number of each refusal, and its place
 abbrev pub numbered : Refusal → Told
@@ -45,23 +71,11 @@ numbered (because.Room due) = refused 12 due
 -- the number and the place that were told, 0 where nothing was refused
 abbrev pub numberTold : Told → ℕ
 numberTold (refused number place) = number
-numberTold more = 0
-numberTold (accepted level columns posts) = 0
-numberTold (height z) = 0
-numberTold void = 0
-numberTold (heightAt column number z) = 0
-numberTold (voidAt column number) = 0
-numberTold done = 0
+numberTold (said tag values) = 0
 
 abbrev pub placeTold : Told → ℕ
 placeTold (refused number place) = place
-placeTold more = 0
-placeTold (accepted level columns posts) = 0
-placeTold (height z) = 0
-placeTold void = 0
-placeTold (heightAt column number z) = 0
-placeTold (voidAt column number) = 0
-placeTold done = 0
+placeTold (said tag values) = 0
 
 -- the kinds of answers, and the type of each
 pub data Kind : Type 0 where

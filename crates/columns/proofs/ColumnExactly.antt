@@ -8,25 +8,17 @@ use borrow.Author.Tests.{eq-eqb, ne-eqb}
 use Rattle.octets.specs.Numbers.{numberAt}
 use Rattle.octets.specs.Sums.{sumOf}
 use Rattle.octets.proofs.ChoiceLaws.{by-equal}
+use Rattle.octets.proofs.SearchLaws.{Before, first-found, none-found, Searched, all, first, searched}
 use Rattle.posts.specs.Words.{wordAllowed}
 use Rattle.answers.specs.declared.Refusal.the-variants.{Preamble, Checksum, Word}
-use Rattle.columns.specs.Column.{wordAt, sumAt, wordIn}
+use Rattle.columns.specs.Column.{wordAt, sumAt, wordIn, PreambleRight, Sealed}
 use Rattle.columns.specs.Judged.{headOf, wordsFrom, judgedColumn}
 use Rattle.columns.specs.declared.Judged.{Judged}
 use Rattle.columns.specs.declared.Judged.the-variants.{Good, Refused}
-use Rattle.columns.proofs.WordSearch.{AllowedBefore, words-stop, words-good, Searched, all, first, searched}
 
--- each field of the preamble is right
-pub record PreambleRight (s : List ℕ) (k : ℕ) : Type 0 where
-  pub sentinel : getD s 0 0 ≡ 170
-  pub block : numberAt s 1 3 ≡ k
-  pub longitude : numberAt s 4 2 ≡ k
-  pub latitude : numberAt s 6 2 ≡ 0
-
--- and so is the checksum
-pub record HeadRight (s : List ℕ) (k posts : ℕ) : Type 0 where
-  pub preamble : PreambleRight s k
-  pub checksum : numberAt s (sumAt posts) 4 ≡ sumOf (take (sumAt posts) s)
+-- each word before the i-th is allowed
+abbrev pub AllowedBefore : List ℕ → Bool → ℕ → Type 0
+AllowedBefore s voids i = Before (λ (j : ℕ). wordAllowed voids (wordIn s j)) i
 
 -- the rows in their order, each where it holds and none before it does
 pub data Row (s : List ℕ) (k posts : ℕ) (voids : Bool) (base : ℕ) : Judged → Type 0 where
@@ -40,13 +32,19 @@ pub data Row (s : List ℕ) (k posts : ℕ) (voids : Bool) (base : ℕ) : Judged
   checksum : PreambleRight s k → (numberAt s (sumAt posts) 4 ≡ sumOf (take (sumAt posts) s) → ⊥)
       → Row s k posts voids base (Refused (Checksum (base + sumAt posts)))
   -- 6
-  word : HeadRight s k posts → (i : ℕ) → i < posts → wordAllowed voids (wordIn s i) ≡ false → AllowedBefore s voids i
+  word : Sealed s k posts → (i : ℕ) → i < posts → wordAllowed voids (wordIn s i) ≡ false → AllowedBefore s voids i
       → Row s k posts voids base (Refused (Word (base + wordAt i)))
-  good : HeadRight s k posts → AllowedBefore s voids posts → Row s k posts voids base Good
+  good : Sealed s k posts → AllowedBefore s voids posts → Row s k posts voids base Good
 
 module _ (s : List ℕ) (k posts : ℕ) (voids : Bool) (base : ℕ) where
+  abbrev test : ℕ → Bool
+  test i = wordAllowed voids (wordIn s i)
+
+  abbrev refusal : ℕ → Judged
+  refusal i = Refused (Word (base + wordAt i))
+
   -- a head that is right leaves the answer to the words
-  by-words : HeadRight s k posts → judgedColumn s k posts voids base ≡ wordsFrom s voids base 0 posts
+  by-words : Sealed s k posts → judgedColumn s k posts voids base ≡ wordsFrom s voids base 0 posts
   unfolding judgedColumn headOf
   by-words h =
       let p = h .preamble in
@@ -61,14 +59,14 @@ module _ (s : List ℕ) (k posts : ℕ) (voids : Bool) (base : ℕ) where
   given _ (latitude a b c n) = simp (eq-eqb _ _ a, eq-eqb _ _ b, eq-eqb _ _ c, ne-eqb _ _ n)
   given _ (checksum p n) =
       simp (eq-eqb _ _ (p .sentinel), eq-eqb _ _ (p .block), eq-eqb _ _ (p .longitude), eq-eqb _ _ (p .latitude), ne-eqb _ _ n)
-  given _ (word h i u bad f) = by-words h ∙ words-stop s voids base posts i u bad f
-  given _ (good h f) = by-words h ∙ words-good s voids base posts f
+  given _ (word h i u bad f) = by-words h ∙ first-found test refusal Good i posts u bad f
+  given _ (good h f) = by-words h ∙ none-found test refusal Good posts f
 
   -- a row whose answer is j
   abbrev Some : Type 0
   Some = (j : Judged) × Row s k posts voids base j
 
-  by-search : HeadRight s k posts → Searched s voids posts → Some
+  by-search : Sealed s k posts → Searched test posts → Some
   by-search h (first i u bad f) = (_, word h i u bad f)
   by-search h (all f) = (_, good h f)
 
@@ -84,7 +82,7 @@ module _ (s : List ℕ) (k posts : ℕ) (voids : Bool) (base : ℕ) where
       (λ d.
       let p : PreambleRight s k = record { sentinel = a; block = b; longitude = c; latitude = d } in
       by-equal (numberAt s (sumAt posts) 4) (sumOf (take (sumAt posts) s))
-      (λ e. by-search (record { preamble = p; checksum = e }) (searched s voids posts))
+      (λ e. by-search (record { preamble = p; checksum = e }) (searched test posts))
       (λ n. (_, checksum p n)))
       (λ n. (_, latitude a b c n)))
       (λ n. (_, longitude a b n)))

@@ -8,7 +8,7 @@ use lib.Dec.{eqb}
 use lib.ListN.{length, getD, take, set, length-set}
 use lib.Seq.{getD-set-same, getD-set-other, getD-take, take-set-le, take-set-lt, length-take-le}
 use Rattle.octets.specs.Choice.{pick}
-use Rattle.octets.specs.Scan.{scan}
+use Rattle.octets.specs.Scan.{firstBad}
 use Rattle.octets.specs.Numbers.{numberAt}
 use Rattle.octets.specs.Sums.{sumOf}
 use Rattle.octets.proofs.ChoiceLaws.{by-order}
@@ -17,7 +17,7 @@ use Rattle.octets.proofs.SumLaws.{sum-set}
 use Rattle.posts.specs.Words.{wordAllowed}
 use Rattle.answers.specs.declared.Refusal.the-variants.{Preamble, Checksum, Word}
 use Rattle.columns.specs.Column.{wordAt, sumAt, wordIn, GoodColumn}
-use Rattle.columns.specs.Judged.{andThen, headOf, judgeWord, wordsFrom, judgedColumn, RefusedIn}
+use Rattle.columns.specs.Judged.{andThen, headOf, wordsFrom, judgedColumn, RefusedIn}
 use Rattle.columns.specs.declared.Judged.{Judged}
 use Rattle.columns.specs.declared.Judged.the-variants.{Good, Refused}
 use Rattle.columns.proofs.Exactly.{good-only}
@@ -40,7 +40,7 @@ module _ (lo hi : ℕ) where
   then-in (Refused r) b p q = p
 
 words-in : (s : List ℕ) (voids : Bool) (base hi i n : ℕ) → base + wordAt i + 2 * n ≤ hi → PlacedIn base hi (wordsFrom s voids base i n)
-unfolding scan judgeWord
+unfolding firstBad
 words-in s voids base hi i zero h = good-in base hi
 words-in s voids base hi i (suc n) h =
     pick-in base hi (wordAllowed voids (wordIn s i)) _ (Refused (Word (base + wordAt i)))
@@ -99,4 +99,4 @@ one-byte s k posts voids base good j v inside other =
     judged-in (set s j v) k posts voids base
     (λ bad.
     let again = good-only (set s j v) k posts voids base (rw length-set (good .long)) bad in
-    never-both s j v (sumAt posts) (omega (arith, good .long)) inside other (good .checksum) (again .checksum))
+    never-both s j v (sumAt posts) (omega (arith, good .long)) inside other (good .right .checksum) (again .right .checksum))

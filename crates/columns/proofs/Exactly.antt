@@ -9,7 +9,7 @@ use Rattle.columns.specs.Column.{GoodColumn}
 use Rattle.columns.specs.Judged.{judgedColumn}
 use Rattle.columns.specs.declared.Judged.{Judged}
 use Rattle.columns.specs.declared.Judged.the-variants.{Good}
-use Rattle.columns.proofs.ColumnExactly.{PreambleRight, Row, sentinel, block, longitude, latitude, checksum, word, good, row, given}
+use Rattle.columns.proofs.ColumnExactly.{Row, sentinel, block, longitude, latitude, checksum, word, good, row, given}
 
 module _ (s : List ℕ) (k posts : ℕ) (voids : Bool) (base : ℕ) where
   -- only the last row answers good
@@ -20,22 +20,10 @@ module _ (s : List ℕ) (k posts : ℕ) (voids : Bool) (base : ℕ) where
   is-good long _ (latitude a b c n) e = let z : _≡_ {A = ℕ} 0 1 = cc in absurd (omega arith)
   is-good long _ (checksum p n) e = let z : _≡_ {A = ℕ} 0 1 = cc in absurd (omega arith)
   is-good long _ (word h i u bad f) e = let z : _≡_ {A = ℕ} 0 1 = cc in absurd (omega arith)
-  is-good long _ (good h f) e =
-      let p = h .preamble in
-      record {
-        long = long;
-        sentinel = p .sentinel;
-        block = p .block;
-        longitude = p .longitude;
-        latitude = p .latitude;
-        checksum = h .checksum;
-        words = f;
-      }
+  is-good long _ (good h f) e = record { long = long; right = h; words = f }
 
   pub good-only : length s ≡ 12 + 2 * posts → judgedColumn s k posts voids base ≡ Good → GoodColumn s k posts voids
   good-only long e = is-good long _ (row s k posts voids base) e
 
   pub good-if : GoodColumn s k posts voids → judgedColumn s k posts voids base ≡ Good
-  good-if g =
-      let p : PreambleRight s k = record { sentinel = g .sentinel; block = g .block; longitude = g .longitude; latitude = g .latitude } in
-      given s k posts voids base Good (good (record { preamble = p; checksum = g .checksum }) (g .words))
+  good-if g = given s k posts voids base Good (good (g .right) (g .words))

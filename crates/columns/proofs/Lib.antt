@@ -3,8 +3,6 @@ pub mod WordSearch
 pub mod ColumnExactly
 pub mod Exactly
 pub mod Damage
+pub mod ColumnWords
+pub mod ColumnHeights
 pub mod WrittenColumn
-pub mod ColumnBytes
-pub mod PostsRead
-pub mod Afresh
-pub mod WrittenGood

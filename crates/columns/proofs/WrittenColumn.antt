@@ -2,46 +2,32 @@
 use Prim.Native.Nat.{ℕ, suc, _+_, _*_, _<_, _≤_}
 use native.Mathlib.Omega.{arith}
 use native.Mathlib.Numerals.{add-one}
-use mathlib.Core.Path.{_≡_, refl, sym, ap, _∙_}
-use mathlib.Core.List.{List, [], _∷_, _++_, append-nil, append-assoc}
-use lib.IntN.{ℤ, pos}
-use lib.ListN.{length, take, getD, set, length-append}
-use lib.Seq.{take-at, take-suc, length-take-le}
-use Rattle.octets.specs.Numbers.{bytesOf}
+use mathlib.Core.Path.{_≡_, sym, ap, _∙_}
+use mathlib.Core.List.{List, [], _∷_, _++_, append-nil}
+use lib.ListN.{length, take, set, length-append}
+use lib.Seq.{take-at}
+use Rattle.octets.specs.Numbers.{bytesOf, bytesOfWords}
 use Rattle.octets.specs.Pastes.{pasted}
 use Rattle.octets.specs.Sums.{sumOf}
+use Rattle.octets.specs.Parts.{listed}
+use Rattle.octets.proofs.JoinedLaws.{length-listed, listed-last}
+use Rattle.octets.proofs.WordLaws.{length-words, words-append}
 use Rattle.octets.proofs.NumberLaws.{length-bytes}
 use Rattle.octets.proofs.PasteLaws.{store, paste-paste, paste-front, paste-all}
-use Rattle.posts.specs.Heights.{wordOf}
-use Rattle.columns.specs.Column.{preamble, wordsOf, sealed, columnOf}
-
-pub length-words : (zs : List ℤ) → length (wordsOf zs) ≡ 2 * length zs
-unfolding wordsOf
-length-words [] = refl
-length-words (z ∷ zs) = length-append (bytesOf 2 (wordOf z)) (wordsOf zs) ∙ omega (arith, length-bytes 2 (wordOf z), length-words zs)
-
-pub words-append : (xs ys : List ℤ) → wordsOf (xs ++ ys) ≡ wordsOf xs ++ wordsOf ys
-unfolding wordsOf
-words-append [] ys = refl
-words-append (z ∷ xs) ys = ap (λ (l : List ℕ). bytesOf 2 (wordOf z) ++ l) (words-append xs ys) ∙ sym (append-assoc (bytesOf 2 (wordOf z)) (wordsOf xs) (wordsOf ys))
-
--- one height more
-words-more : (zs : List ℤ) (i : ℕ) → i < length zs → wordsOf (take (suc i) zs) ≡ wordsOf (take i zs) ++ bytesOf 2 (wordOf (getD zs i (pos 0)))
-unfolding wordsOf
-words-more zs i h =
-    ap wordsOf (take-suc zs i (pos 0) h) ∙ words-append (take i zs) (getD zs i (pos 0) ∷ [])
-    ∙ ap (λ (l : List ℕ). wordsOf (take i zs) ++ l) (append-nil (bytesOf 2 (wordOf (getD zs i (pos 0)))))
+use Rattle.columns.specs.Column.{preamble, sealed, columnOfWords}
+use Rattle.columns.proofs.ColumnWords.{length-preamble, length-body}
 
 -- a turn of the loop that puts the words
-pub words-step : (out : List ℕ) (zs : List ℤ) (i : ℕ) → i < length zs → 8 + 2 * length zs ≤ length out
-    → pasted (pasted out 8 (wordsOf (take i zs))) (8 + 2 * i) (bytesOf 2 (wordOf (getD zs i (pos 0)))) ≡ pasted out 8 (wordsOf (take (i + 1) zs))
-words-step out zs i h k =
-    let n : 8 + length (wordsOf (take i zs)) ≡ 8 + 2 * i = omega (arith, length-words (take i zs), length-take-le i zs (omega arith)) in
-    rw (add-one i, words-more zs i h, ← n) (paste-paste out 8 (wordsOf (take i zs)) (bytesOf 2 (wordOf (getD zs i (pos 0)))) (omega arith))
-
-pub length-preamble : (k : ℕ) → length (preamble k) ≡ 8
-unfolding preamble
-length-preamble k = simp (length-append, length-bytes)
+pub words-step : (out : List ℕ) (word : ℕ → ℕ) (i n : ℕ) → i < n → 8 + 2 * n ≤ length out
+    → pasted (pasted out 8 (bytesOfWords (listed word i))) (8 + 2 * i) (bytesOf 2 (word i)) ≡ pasted out 8 (bytesOfWords (listed word (i + 1)))
+unfolding bytesOfWords
+words-step out word i n h room =
+    let ws = listed word i in
+    let at : 8 + length (bytesOfWords ws) ≡ 8 + 2 * i = omega (arith, length-words ws, length-listed word i) in
+    let more : bytesOfWords (listed word (suc i)) ≡ bytesOfWords ws ++ bytesOf 2 (word i) =
+    ap bytesOfWords (listed-last word i) ∙ words-append ws (word i ∷ []) ∙ ap (λ (l : List ℕ). bytesOfWords ws ++ l) (append-nil (bytesOf 2 (word i)))
+    in
+    rw (add-one i, more, ← at) (paste-paste out 8 (bytesOfWords ws) (bytesOf 2 (word i)) (omega (arith, length-bytes 2 (word i))))
 
 -- the preamble's four parts, put one after the other
 pub preamble-put : (out : List ℕ) (k : ℕ) → 8 ≤ length out
@@ -60,32 +46,31 @@ preamble-put out k h =
     ∙ ap (λ (m : ℕ). pasted (pasted out 0 c) m (bytesOf 2 0)) (sym lc)
     ∙ paste-paste out 0 c (bytesOf 2 0) (omega (arith, lc))
 
--- the bytes before the checksum
-pub length-body : (k : ℕ) (zs : List ℤ) → length (preamble k ++ wordsOf zs) ≡ 8 + 2 * length zs
-length-body k zs = length-append (preamble k) (wordsOf zs) ∙ omega (arith, length-preamble k, length-words zs)
-
 -- preamble, words and checksum, put one after the other over bytes of the column's length
-module _ (out : List ℕ) (k : ℕ) (zs : List ℤ) (long : length out ≡ 12 + 2 * length zs) where
+module _ (out : List ℕ) (k : ℕ) (ws : List ℕ) (n : ℕ) (counted : length ws ≡ n) (long : length out ≡ 12 + 2 * n) where
   abbrev body : List ℕ
-  body = preamble k ++ wordsOf zs
+  body = preamble k ++ bytesOfWords ws
 
-  body-put : pasted (pasted out 0 (preamble k)) 8 (wordsOf zs) ≡ pasted out 0 body
+  length-here : length body ≡ 8 + 2 * n
+  length-here = length-body k ws ∙ omega arith
+
+  body-put : pasted (pasted out 0 (preamble k)) 8 (bytesOfWords ws) ≡ pasted out 0 body
   body-put =
-      let n : 0 + length (preamble k) ≡ 8 = omega (arith, length-preamble k) in
-      ap (λ (m : ℕ). pasted (pasted out 0 (preamble k)) m (wordsOf zs)) (sym n) ∙ paste-paste out 0 (preamble k) (wordsOf zs) (omega arith)
+      let e : 0 + length (preamble k) ≡ 8 = omega (arith, length-preamble k) in
+      ap (λ (m : ℕ). pasted (pasted out 0 (preamble k)) m (bytesOfWords ws)) (sym e) ∙ paste-paste out 0 (preamble k) (bytesOfWords ws) (omega arith)
 
   -- the bytes that are summed
-  summed : take (8 + 2 * length zs) (pasted (pasted out 0 (preamble k)) 8 (wordsOf zs)) ≡ body
-  summed = ap (take (8 + 2 * length zs)) (body-put ∙ paste-front out body) ∙ take-at body _ _ (length-body k zs)
+  summed : take (8 + 2 * n) (pasted (pasted out 0 (preamble k)) 8 (bytesOfWords ws)) ≡ body
+  summed = ap (take (8 + 2 * n)) (body-put ∙ paste-front out body) ∙ take-at body _ _ length-here
 
-  pub column-put : (v : ℕ) → v ≡ sumOf (take (8 + 2 * length zs) (pasted (pasted out 0 (preamble k)) 8 (wordsOf zs)))
-      → pasted (pasted (pasted out 0 (preamble k)) 8 (wordsOf zs)) (8 + 2 * length zs) (bytesOf 4 v) ≡ columnOf k zs
-  unfolding columnOf sealed
+  pub column-put : (v : ℕ) → v ≡ sumOf (take (8 + 2 * n) (pasted (pasted out 0 (preamble k)) 8 (bytesOfWords ws)))
+      → pasted (pasted (pasted out 0 (preamble k)) 8 (bytesOfWords ws)) (8 + 2 * n) (bytesOf 4 v) ≡ columnOfWords k ws
+  unfolding columnOfWords sealed
   column-put v e =
-      let n : 0 + length body ≡ 8 + 2 * length zs = omega (arith, length-body k zs) in
-      let all : length (body ++ bytesOf 4 v) ≡ length out = length-append body (bytesOf 4 v) ∙ omega (arith, length-body k zs, length-bytes 4 v) in
-      ap (λ (l : List ℕ). pasted l (8 + 2 * length zs) (bytesOf 4 v)) body-put
-      ∙ ap (λ (m : ℕ). pasted (pasted out 0 body) m (bytesOf 4 v)) (sym n)
-      ∙ paste-paste out 0 body (bytesOf 4 v) (omega (arith, length-body k zs))
+      let m : 0 + length body ≡ 8 + 2 * n = omega (arith, length-here) in
+      let all : length (body ++ bytesOf 4 v) ≡ length out = length-append body (bytesOf 4 v) ∙ omega (arith, length-here, length-bytes 4 v) in
+      ap (λ (l : List ℕ). pasted l (8 + 2 * n) (bytesOf 4 v)) body-put
+      ∙ ap (λ (x : ℕ). pasted (pasted out 0 body) x (bytesOf 4 v)) (sym m)
+      ∙ paste-paste out 0 body (bytesOf 4 v) (omega (arith, length-here))
       ∙ paste-all out (body ++ bytesOf 4 v) all
-      ∙ ap (λ (m : ℕ). body ++ bytesOf 4 m) (e ∙ ap sumOf summed)
+      ∙ ap (λ (x : ℕ). body ++ bytesOf 4 x) (e ∙ ap sumOf summed)

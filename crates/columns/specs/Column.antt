@@ -1,31 +1,34 @@
 -- The bytes of a column, for any number of posts (rules C1 to C4).
-use Prim.Native.Nat.{ℕ, zero, suc, _+_, _*_, _<_}
+use Prim.Native.Nat.{ℕ, _+_, _*_, _<_}
 use mathlib.Core.Path.{_≡_}
 use mathlib.Core.Bool.{Bool, true}
-use mathlib.Core.List.{List, [], _∷_, _++_}
+use mathlib.Core.List.{List, [], _∷_, _++_, map}
 use lib.IntN.{ℤ}
 use lib.ListN.{length, getD, take}
-use Rattle.octets.specs.Numbers.{numberAt, bytesOf}
+use Rattle.octets.specs.Numbers.{numberAt, bytesOf, bytesOfWords}
 use Rattle.octets.specs.Sums.{sumOf}
-use Rattle.posts.specs.Words.{wordAllowed, postOf}
-use Rattle.posts.specs.Heights.{wordOf, formOf}
+use Rattle.octets.specs.Parts.{listed}
+use Rattle.posts.specs.Words.{wordAllowed}
+use Rattle.posts.specs.Heights.{wordOf, saidBy}
 
 -- C1, C2: sentinel, block count, longitude count and latitude count of column k
 unfoldable pub preamble : ℕ → List ℕ
 preamble k = (170 ∷ []) ++ bytesOf 3 k ++ bytesOf 2 k ++ bytesOf 2 0
 
--- C1: the words of heights in the writer's form, south first
-unfoldable pub wordsOf : List ℤ → List ℕ
-wordsOf [] = []
-wordsOf (z ∷ zs) = bytesOf 2 (wordOf z) ++ wordsOf zs
-
 -- C4: bytes, and after them their checksum
 unfoldable pub sealed : List ℕ → List ℕ
 sealed body = body ++ bytesOf 4 (sumOf body)
 
--- column k of these heights
-unfoldable pub columnOf : ℕ → List ℤ → List ℕ
-columnOf k zs = sealed (preamble k ++ wordsOf zs)
+-- C1: column k of these words, south first, whatever they say
+unfoldable pub columnOfWords : ℕ → List ℕ → List ℕ
+columnOfWords k ws = sealed (preamble k ++ bytesOfWords ws)
+
+-- and of heights: the writer's word of each
+abbrev pub wordsOf : List ℤ → List ℕ
+wordsOf zs = map wordOf zs
+
+abbrev pub columnOf : ℕ → List ℤ → List ℕ
+columnOf k zs = columnOfWords k (wordsOf zs)
 
 -- where the word of post i stands in its column, and where the checksum does
 abbrev pub wordAt : ℕ → ℕ
@@ -38,17 +41,31 @@ sumAt posts = 8 + 2 * posts
 abbrev pub wordIn : List ℕ → ℕ → ℕ
 wordIn s i = numberAt s (wordAt i) 2
 
--- the heights of n posts from post i on, in the writer's form
-unfoldable pub heightsFrom : List ℕ → ℕ → ℕ → List ℤ
-heightsFrom s i zero = []
-heightsFrom s i (suc n) = formOf (postOf (wordIn s i)) ∷ heightsFrom s (i + 1) n
+-- the words of a column's posts, and what they say
+abbrev pub wordsIn : List ℕ → ℕ → List ℕ
+wordsIn s posts = listed (wordIn s) posts
 
--- C1 to C4, P4: the bytes are a good column k
-pub record GoodColumn (s : List ℕ) (k posts : ℕ) (voids : Bool) : Type 0 where
-  pub long : length s ≡ 12 + 2 * posts
+abbrev pub heightsIn : List ℕ → ℕ → List ℤ
+heightsIn s posts = map saidBy (wordsIn s posts)
+
+-- C1, C2: each field of the preamble is that of column k
+pub record PreambleRight (s : List ℕ) (k : ℕ) : Type 0 where
   pub sentinel : getD s 0 0 ≡ 170
   pub block : numberAt s 1 3 ≡ k
   pub longitude : numberAt s 4 2 ≡ k
   pub latitude : numberAt s 6 2 ≡ 0
+
+-- C4: and so is the checksum, whatever the words are
+pub record Sealed (s : List ℕ) (k posts : ℕ) : Type 0 where
+  pub preamble : PreambleRight s k
   pub checksum : numberAt s (sumAt posts) 4 ≡ sumOf (take (sumAt posts) s)
+
+-- C1 to C4, P4: the bytes are a good column k
+pub record GoodColumn (s : List ℕ) (k posts : ℕ) (voids : Bool) : Type 0 where
+  pub long : length s ≡ 12 + 2 * posts
+  pub right : Sealed s k posts
   pub words : (i : ℕ) → i < posts → wordAllowed voids (wordIn s i) ≡ true
+
+-- P4: each of a list of words may stand where voids are allowed or not
+abbrev pub Allowed : Bool → List ℕ → Type 0
+Allowed voids ws = (i : ℕ) → i < length ws → wordAllowed voids (getD ws i 0) ≡ true

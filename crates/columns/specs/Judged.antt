@@ -5,7 +5,7 @@ use mathlib.Core.List.{List}
 use lib.ListN.{getD, take}
 use lib.Dec.{eqb}
 use Rattle.octets.specs.Choice.{pick}
-use Rattle.octets.specs.Scan.{scan}
+use Rattle.octets.specs.Scan.{firstBad}
 use Rattle.octets.specs.Numbers.{numberAt}
 use Rattle.octets.specs.Sums.{sumOf}
 use Rattle.posts.specs.Words.{wordAllowed}
@@ -35,13 +35,9 @@ headOf s k posts base =
     (Refused (Preamble (base + 1))))
     (Refused (Preamble base))
 
--- N6: the word of post i, and then the rest
-unfoldable pub judgeWord : List ℕ → Bool → ℕ → ℕ → Judged → Judged
-judgeWord s voids base i rest = pick (wordAllowed voids (wordIn s i)) rest (Refused (Word (base + wordAt i)))
-
--- n words from post i on
+-- N6: n words from post i on, up to the first that is not allowed
 abbrev pub wordsFrom : List ℕ → Bool → ℕ → ℕ → ℕ → Judged
-wordsFrom s voids base i n = scan (judgeWord s voids base) Good i n
+wordsFrom s voids base i n = firstBad (λ (j : ℕ). wordAllowed voids (wordIn s j)) (λ (j : ℕ). Refused (Word (base + wordAt j))) Good i n
 
 unfoldable pub judgedColumn : List ℕ → ℕ → ℕ → Bool → ℕ → Judged
 judgedColumn s k posts voids base = andThen (headOf s k posts base) (wordsFrom s voids base 0 posts)

@@ -1,3 +1,4 @@
--- What a column is, and how one is judged.
+-- What a column is, how one is judged, and what functions ask.
 pub mod Column
 pub mod Judged
+pub mod Asked

@@ -1,7 +1,6 @@
 // One data column: its preamble, its checksum and its post words, judged and written over any number of posts.
 ghost use mathlib.Core.Path.{_≡_};
-ghost use Prim.Native.Nat.{_+_, _*_, _^_, _<_, _≤_};
-ghost use lib.ListN.{length};
+ghost use Rattle.columns.specs.Asked.{Whole};
 ghost use Rattle.columns.specs.Judged.{headOf, judgedColumn};
 
 pub mod write;
@@ -20,7 +19,7 @@ pub enum Judged {
 
 // The preamble fields in their order, then the checksum. Places count from `base`, the column's offset in the file.
 pub fn judge_head(column: &[u8], number: usize, posts: usize, base: usize) -> Judged
-    requires { ⌜ (length (now column) ≡ 12 + 2 * posts) × ((posts ≤ 3601) × (base + (12 + 2 * posts) < 2 ^ 64)) ⌝ }
+    requires { ⌜ Whole (now column) posts base ⌝ }
     ensures { λ r. ⌜ r ≡ headOf (now (column .entry)) number posts base ⌝ }
 {
     if column[0] != 170 {
@@ -44,7 +43,7 @@ pub fn judge_head(column: &[u8], number: usize, posts: usize, base: usize) -> Ju
 
 // The preamble, the checksum, then the first word that is not allowed.
 pub fn judge(column: &[u8], number: usize, posts: usize, voids: bool, base: usize) -> Judged
-    requires { ⌜ (length (now column) ≡ 12 + 2 * posts) × ((posts ≤ 3601) × (base + (12 + 2 * posts) < 2 ^ 64)) ⌝ }
+    requires { ⌜ Whole (now column) posts base ⌝ }
     ensures { λ r. ⌜ r ≡ judgedColumn (now (column .entry)) number posts voids base ⌝ }
 {
     let head = judge_head(column, number, posts, base);

@@ -1,23 +1,33 @@
-// Writing one data column over lent bytes.
+// Writing one data column over lent bytes, its heights from any source.
 ghost use mathlib.Core.Path.{_≡_};
-ghost use Prim.Native.Nat.{_+_, _*_, _<_, _≤_};
-ghost use lib.ListN.{length};
+ghost use Rattle.octets.specs.Numbers.{bytesOfWords};
 ghost use Rattle.octets.specs.Pastes.{pasted};
-ghost use Rattle.columns.specs.Column.{columnOf, preamble, wordsOf};
+ghost use Rattle.sources.specs.Given.{given, wordsGiven};
+ghost use Rattle.columns.specs.Asked.{WordsFit, PreambleFits, ColumnFits};
+ghost use Rattle.columns.specs.Column.{preamble, columnOfWords};
 use octets::numbers::put16;
 use octets::numbers::put24;
 use octets::numbers::put32;
 use octets::sums::sum;
 use posts::heights::word_of;
+use sources::Source;
+use sources::height_at;
 
-// The words of heights in the writer's form, after the preamble.
-fn put_words(out: &mut [u8], heights: &[i16])
-    requires { ⌜ 8 + 2 * length (now heights) ≤ length (now out) ⌝ }
-    ensures { λ _. ⌜ now (out .exit) ≡ pasted (now (out .entry)) 8 (wordsOf (now (heights .entry))) ⌝ }
+// The words of so many heights, from height `first` on, after the preamble.
+fn put_words(
+    out: &mut [u8],
+    source: Source,
+    numbers: &[i16],
+    bytes: &[u8],
+    first: usize,
+    posts: usize,
+)
+    requires { ⌜ WordsFit (now out) (given source (now numbers) (now bytes)) first posts ⌝ }
+    ensures { λ _. ⌜ now (out .exit) ≡ pasted (now (out .entry)) 8 (bytesOfWords (wordsGiven (given source (now (numbers .entry)) (now (bytes .entry))) first posts)) ⌝ }
 {
     let mut i = 0;
-    while i < heights.len() {
-        let height = heights[i];
+    while i < posts {
+        let height = height_at(source, numbers, bytes, first + i);
         let word = word_of(height as i64);
         put16(out, 8 + 2 * i, word);
         i += 1;
@@ -26,7 +36,7 @@ fn put_words(out: &mut [u8], heights: &[i16])
 
 // Sentinel, block count, longitude count and latitude count.
 fn put_preamble(out: &mut [u8], number: usize)
-    requires { ⌜ (8 ≤ length (now out)) × (number < 65536) ⌝ }
+    requires { ⌜ PreambleFits (now out) number ⌝ }
     ensures { λ _. ⌜ now (out .exit) ≡ pasted (now (out .entry)) 0 (preamble number) ⌝ }
 {
     out[0] = 170;
@@ -35,14 +45,22 @@ fn put_preamble(out: &mut [u8], number: usize)
     put16(out, 6, 0);
 }
 
-// Column `number` of these heights, over bytes of its length.
-pub fn put_column(out: &mut [u8], number: usize, heights: &[i16])
-    requires { ⌜ (length (now out) ≡ 12 + 2 * length (now heights)) × ((length (now heights) ≤ 3601) × (number < 65536)) ⌝ }
-    ensures { λ _. ⌜ now (out .exit) ≡ columnOf number (now (heights .entry)) ⌝ }
+// Column `number` of so many heights, from height `first` on, over bytes of its length.
+pub fn put_column(
+    out: &mut [u8],
+    number: usize,
+    source: Source,
+    numbers: &[i16],
+    bytes: &[u8],
+    first: usize,
+    posts: usize,
+)
+    requires { ⌜ ColumnFits (now out) number (given source (now numbers) (now bytes)) first posts ⌝ }
+    ensures { λ _. ⌜ now (out .exit) ≡ columnOfWords number (wordsGiven (given source (now (numbers .entry)) (now (bytes .entry))) first posts) ⌝ }
 {
     put_preamble(out, number);
-    put_words(out, heights);
-    let end = 8 + 2 * heights.len();
+    put_words(out, source, numbers, bytes, first, posts);
+    let end = 8 + 2 * posts;
     let total = sum(&out[..end]);
     put32(out, end, total);
 }

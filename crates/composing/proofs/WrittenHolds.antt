@@ -17,7 +17,8 @@ use Rattle.octets.proofs.TextLaws.{part-has}
 use Rattle.layout.specs.Levels.{latitudeInterval}
 use Rattle.layout.specs.Grid.{gridOf}
 use Rattle.layout.specs.declared.Grid.{Grid}
-use Rattle.layout.proofs.Ranges.{Ranged, ranged}
+use Rattle.layout.specs.Ranges.{Ranged}
+use Rattle.layout.proofs.Ranges.{ranged}
 use Rattle.angles.specs.Angles.{northward, eastward, degreesIn, letterIn, degreesOf, letterOf, edgeOf}
 use Rattle.rules.specs.Rules.{textOf, numberOf, isNumber, formOf, mayCarry, angleHolds, isAccuracy, isLevel, isSecurity, isEdition, isVertical, holds}
 use Rattle.describing.specs.Items.{inRange, accuracyFor}

@@ -1,14 +1,16 @@
 // Putting one field: a text, a number in digits, an angle, an accuracy, by the field's kind.
 ghost use mathlib.Core.Path.{_≡_};
 ghost use mathlib.Core.List.{_∷_, _++_};
-ghost use Prim.Native.Nat.{suc, _+_, _<_};
+ghost use Prim.Native.Nat.{suc, _+_};
 ghost use lib.ListN.{length};
 ghost use Rattle.octets.specs.Digits.{digitsOf};
 ghost use Rattle.octets.specs.Texts.{ascii};
 ghost use Rattle.angles.specs.Angles.{form};
 ghost use Rattle.rules.specs.Rules.{textOf, formOf, widthOf};
+ghost use Rattle.rules.specs.Asked.{AngleField};
 ghost use Rattle.describing.specs.Facts.{dueFor};
 ghost use Rattle.composing.specs.Written.{axisOf, angleFor, angleText, accuracyText, datumText, textFor};
+ghost use Rattle.composing.specs.Asked.{ToFill};
 use angles::Axis;
 use angles::EASTWARD;
 use angles::NORTHWARD;
@@ -69,7 +71,7 @@ fn put_angle(field: &mut [u8], digits: usize, zeros: &[u8], axis: Axis, angle: u
 }
 
 fn put_angle_for(field: &mut [u8], angle: Angle, d: Description)
-    requires { ⌜ (length (now field) ≡ suc (formOf angle .digits + length (formOf angle .zeros))) × ((d .latitude < 180) × (d .longitude < 360)) ⌝ }
+    requires { ⌜ AngleField angle (d .latitude) (d .longitude) (now field) ⌝ }
     ensures { λ _. ⌜ now (field .exit) ≡ angleText (formOf angle) (axisOf angle) (angleFor angle (dueFor d)) ⌝ }
 {
     match angle {
@@ -122,7 +124,7 @@ fn put_series(field: &mut [u8], level: usize)
 
 // What the description makes due in a field of this kind.
 pub fn put_field(field: &mut [u8], kind: Kind, d: Description, grid: Grid)
-    requires { ⌜ (length (now field) ≡ widthOf kind) × ((grid ≡ dueFor d .grid) × ((d .latitude < 180) × (d .longitude < 360))) ⌝ }
+    requires { ⌜ ToFill (widthOf kind) (now field) d grid ⌝ }
     ensures { λ _. ⌜ now (field .exit) ≡ textFor kind d ⌝ }
 {
     let interval = grid.interval;

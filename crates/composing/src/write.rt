@@ -1,16 +1,12 @@
 // Headers written from a description whose items are in range.
 ghost use mathlib.Core.Path.{_≡_};
-ghost use mathlib.Core.Bool.{true};
 ghost use mathlib.Core.List.{_++_};
-ghost use Prim.Native.Nat.{_<_, _≤_};
 ghost use lib.ListN.{length, drop};
-ghost use Rattle.describing.specs.Items.{inRange};
 ghost use Rattle.fields.specs.Table.{fields};
-ghost use Rattle.describing.specs.Facts.{dueFor};
 ghost use Rattle.composing.specs.Written.{withFields, areas, withAreas, freeBytes, headersFor};
+ghost use Rattle.composing.specs.Asked.{ToFill, HeadersFit};
 use crate::AREAS;
 use crate::put::put_field;
-use angles::near_edge;
 use describing::Description;
 use fields::FIELDS;
 use fields::row;
@@ -44,7 +40,7 @@ fn put_free(head: &mut [u8])
 }
 
 fn put_fields(head: &mut [u8], d: Description, grid: Grid)
-    requires { ⌜ (length (now head) ≡ 3428) × ((grid ≡ dueFor d .grid) × ((d .latitude < 180) × (d .longitude < 360))) ⌝ }
+    requires { ⌜ ToFill 3428 (now head) d grid ⌝ }
     ensures { λ _. ⌜ now (head .exit) ≡ withFields (now (head .entry)) d fields ⌝ }
 {
     let mut i = 0;
@@ -58,18 +54,17 @@ fn put_fields(head: &mut [u8], d: Description, grid: Grid)
 }
 
 fn put_all(head: &mut [u8], d: Description, grid: Grid)
-    requires { ⌜ (length (now head) ≡ 3428) × ((grid ≡ dueFor d .grid) × ((d .latitude < 180) × (d .longitude < 360))) ⌝ }
+    requires { ⌜ ToFill 3428 (now head) d grid ⌝ }
     ensures { λ _. ⌜ now (head .exit) ≡ headersFor d ⌝ }
 {
     put_free(head);
     put_fields(head, d, grid);
 }
 
-// The headers at the front of `out`; every byte past them stays.
-pub fn put_headers(out: &mut [u8], d: Description)
-    requires { ⌜ (3428 ≤ length (now out)) × (inRange d ≡ true) ⌝ }
+// The headers at the front of `out`, for the grid that the description makes due; every byte past them stays.
+pub fn put_headers(out: &mut [u8], d: Description, grid: Grid)
+    requires { ⌜ HeadersFit (now out) d grid ⌝ }
     ensures { λ _. ⌜ now (out .exit) ≡ headersFor d ++ drop 3428 (now (out .entry)) ⌝ }
 {
-    let grid = layout::grid_of(d.level, near_edge(d.latitude));
     put_all(&mut out[0..HEADER_BYTES], d, grid);
 }

@@ -10,11 +10,13 @@ use denote.Ref.{now}
 use borrow.Fn.Kinds as K
 use Rattle.answers.specs.Told.{Told, refused, accepted, numberTold, placeTold, told}
 use Rattle.answers.specs.Told as telling
+use Rattle.answers.proofs.Injective.{number-ranged}
 use Rattle.packing.specs.Packed.{packed}
 use Rattle.packing.specs.Apart.{numberIn, placeIn, toldIn, Fits}
+use Rattle.packing.specs.Apart as fits
 use Rattle.packing.proofs.TakenApart.{number-told, place-told}
 use Rattle.headers.specs.Judged.{factsIn}
-use Rattle.reading.specs.Cell.{startOf, Cell}
+use Rattle.cells.specs.Cell.{startOf, Cell}
 use Rattle.reading.specs.Intake.{taken}
 use Rattle.reading.proofs.CellExactly.{cell-accepted}
 use Rattle.reading.proofs.IntakeExactly.{endOf, IntakeRow, bad-headers, cut, column, surplus, fine, row}
@@ -23,7 +25,7 @@ use Rattle.reading.proofs.intake.intake.Reads as intake
 use Rattle.reading.proofs.intake.intake.Kinds as intake-kinds
 use Rattle.dted.proofs.cells.dted_intake.Reads as host-intake
 use Rattle.dted.proofs.cells.dted_intake.Kinds as host-intake-kinds
-use Rattle.demands.proofs.PlacesFit.{number-ranged, intake-fits}
+use Rattle.demands.proofs.PlacesFit.{intake-fits}
 use Rattle.demands.proofs.HostTold.{intake-told}
 
 -- the number that was answered is 0 exactly where the bytes are a cell
@@ -55,12 +57,14 @@ pub record OneByte (l : List ℕ) (k j v : ℕ) : Type 0 where
   pub to : j < endOf l k
   pub other : v ≡ getD l j 0 → ⊥
 
+-- a refusal that fits has a number
+some : {number place : ℕ} → Fits (refused number place) → 0 < number
+some (fits.refused number place h small near) = h
+
 byte-told : (l : List ℕ) (k j v : ℕ) → OneByte l k j v → RefusedIn l k (numberTold (taken (set l j v))) (placeTold (taken (set l j v)))
 byte-told l k j v b =
-    let t = taken (set l j v) in
     let inside = one-byte-refused l (b .cell) k j v (b .column) (b .from) (b .to) (b .other) in
-    let fits : Fits (refused (numberTold t) (placeTold t)) = subst Fits (inside .0) (intake-fits (set l j v)) in
-    record { refused = fits .0; from = inside .1 .0; to = inside .1 .1 }
+    record { refused = some (subst Fits (inside .0) (intake-fits (set l j v))); from = inside .1 .0; to = inside .1 .1 }
 
 -- intake
 module _ (κs : L.Lfts 1) (a : K.Dens κs intake-kinds.ps) (r : _) (s : _) (kept : intake.Post κs a r s) where

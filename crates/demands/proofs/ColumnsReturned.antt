@@ -1,12 +1,12 @@
 -- X2 over the column writers' own promises, inner and exported: given the posts of a column of an accepted cell, a call is done and puts that
 -- column's bytes; and the cell is its headers and the columns so put.
-use Prim.Native.Nat.{ℕ, zero, suc, _*_, _<_, _≤_}
+use Prim.Native.Nat.{ℕ, _*_, _<_, _≤_}
 use native.Mathlib.Omega.{arith}
-use mathlib.Core.Path.{_≡_, refl, sym, ap, _∙_}
-use mathlib.Core.List.{List, [], _++_}
+use mathlib.Core.Path.{_≡_, sym, ap, _∙_}
+use mathlib.Core.List.{List, _++_}
 use lib.IntN.{ℤ}
-use lib.ListN.{length, getD, take, drop, length-drop, take-append-drop}
-use lib.Seq.{take-all, take-at, drop-drop}
+use lib.ListN.{length, take, drop, length-drop, take-append-drop}
+use lib.Seq.{take-at, drop-drop}
 use contract.Lifetimes as L
 use denote.Ref.{now}
 use borrow.Fn.Kinds as K
@@ -14,25 +14,27 @@ use Rattle.answers.specs.Told.{told, act}
 use Rattle.answers.specs.declared.Outcome.the-variants.{Done}
 use Rattle.answers.proofs.Injective.{told-injective}
 use Rattle.packing.specs.Packed.{packed}
+use Rattle.octets.specs.Numbers.{Bytes}
+use Rattle.octets.specs.Parts.{joined}
+use Rattle.octets.proofs.JoinedLaws.{joined-all}
 use Rattle.layout.specs.Levels.{postsOf}
 use Rattle.layout.specs.Grid.{headerBytes}
 use Rattle.layout.specs.declared.Grid.{Grid}
 use Rattle.headers.specs.Judged.{factsIn}
-use Rattle.columns.specs.Column.{heightsFrom}
-use Rattle.reading.specs.Cell.{columnAt, Cell}
+use Rattle.columns.specs.Column.{heightsIn}
+use Rattle.cells.specs.Cell.{columnAt, Cell}
+use Rattle.cells.proofs.MadeCells.{cell-facts}
 use Rattle.streaming.specs.Column.{columnTold, columnOutput}
-use Rattle.wording.specs.Words.{heightsIn}
+use Rattle.sources.specs.Given.{heightsInBytes}
 use Rattle.hosting.proofs.AsHeights.{column-same}
 use Rattle.writing.proofs.ByteReturn.{cell-of-level, return-done, byte-return}
-use Rattle.writing.proofs.Joined.{join-cut}
-use Rattle.writing.proofs.OwnGrid.{cell-facts}
 use Rattle.streaming.proofs.column.write.Reads as write-column
 use Rattle.streaming.proofs.column.write.Kinds as write-column-kinds
 use Rattle.dted.proofs.writers.dted_write_column.Reads as host-write-column
 use Rattle.dted.proofs.writers.dted_write_column.Kinds as host-write-column-kinds
 use Rattle.demands.proofs.HostAnswers.{done-0}
 
-module _ (l : List ℕ) (cell : Cell l) (bytes : (i : ℕ) → getD l i 0 < 256) where
+module _ (l : List ℕ) (cell : Cell l) (bytes : Bytes l) where
   abbrev g : Grid
   g = factsIn l .grid
 
@@ -40,7 +42,7 @@ module _ (l : List ℕ) (cell : Cell l) (bytes : (i : ℕ) → getD l i 0 < 256)
   pub record OwnPosts (level number : ℕ) (posts : List ℤ) (out : List ℕ) : Type 0 where
     pub column : number < factsIn l .grid .columns
     pub of-level : level ≡ factsIn l .grid .level
-    pub own : posts ≡ heightsFrom (columnAt l (factsIn l .grid) number) 0 (factsIn l .grid .posts)
+    pub own : posts ≡ heightsIn (columnAt l (factsIn l .grid) number) (factsIn l .grid .posts)
     pub room : factsIn l .grid .bytes .column ≤ length out
 
   -- and left the column at the front of the output, the rest as it was
@@ -62,34 +64,26 @@ module _ (l : List ℕ) (cell : Cell l) (bytes : (i : ℕ) → getD l i 0 < 256)
 
   -- and the exported one, over bytes: as many as the column's posts, and the same heights
   pub host-column-returned : (κs : L.Lfts 2) (a : K.Dens κs host-write-column-kinds.ps) (r : _) (s : _) → host-write-column.Post κs a r s
-      → length (now (a .1 .1 .1 .0)) ≡ 2 * factsIn l .grid .posts → OwnPosts (a .1 .0) (a .1 .1 .0) (heightsIn (now (a .1 .1 .1 .0))) (now (a .0))
+      → length (now (a .1 .1 .1 .0)) ≡ 2 * factsIn l .grid .posts → OwnPosts (a .1 .0) (a .1 .1 .0) (heightsInBytes (now (a .1 .1 .1 .0))) (now (a .0))
       → (r ≡ 0) × (now (s .0) ≡ putBack (a .1 .1 .0) (now (a .0)))
   host-column-returned κs a r s kept long own =
       let given = now (a .1 .1 .1 .0) in
       let out = now (a .0) in
-      let it = returned (a .1 .0) (a .1 .1 .0) (heightsIn given) out own in
+      let it = returned (a .1 .0) (a .1 .1 .0) (heightsInBytes given) out own in
       let due = ap (λ (n : ℕ). 2 * n) (sym (cell-of-level l cell .posts)) ∙ ap (λ (v : ℕ). 2 * postsOf v) (sym (own .of-level)) in
       let same = column-same (a .1 .0) (a .1 .1 .0) given out (long ∙ due) in
       (kept .0 ∙ ap packed (same .0 ∙ it .0) ∙ done-0, kept .1 ∙ same .1 ∙ it .1)
 
-  -- columns, one after the other
-  unfoldable pub joined : (ℕ → List ℕ) → ℕ → List ℕ
-  joined column zero = []
-  joined column (suc n) = joined column n ++ column n
-
   -- the front of what each call left, behind the cell's headers: the cell
   pub cell-returned : (left out : ℕ → List ℕ) → ((k : ℕ) → k < factsIn l .grid .columns → left k ≡ putBack k (out k))
       → take headerBytes l ++ joined (λ (k : ℕ). take (factsIn l .grid .bytes .column) (left k)) (factsIn l .grid .columns) ≡ l
-  unfolding joined
   cell-returned left out put =
       let size = g .bytes .column in
       let in-range = cell-facts l cell .grid in
-      let front : (k : ℕ) → k < g .columns → take size (left k) ≡ take size (drop (k * size) (drop headerBytes l)) =
-      λ k h.
-      let long = cell .columns k h .long ∙ sym (in-range .column) in
-      ap (take size) (put k h) ∙ take-at (columnAt l g k) (drop size (out k)) size long ∙ ap (take size) (sym (drop-drop (k * size) headerBytes l))
+      let all =
+      joined-all size (λ (k : ℕ). take size (left k)) (drop headerBytes l) (g .columns) (rw length-drop (omega (arith, cell .framed .long, in-range .cell)))
+      (λ k h.
+      let long = cell .framed .columns k h .long ∙ sym (in-range .column) in
+      ap (take size) (put k h) ∙ take-at (columnAt l g k) (drop size (out k)) size long ∙ ap (take size) (sym (drop-drop (k * size) headerBytes l)))
       in
-      let column : ℕ → List ℕ = λ k. take size (left k) in
-      let all = join-cut column (joined column) size refl (λ n. refl) (drop headerBytes l) (g .columns) front in
-      let whole : length (drop headerBytes l) ≤ g .columns * size = rw length-drop (omega (arith, cell .long, in-range .cell)) in
-      rw (all, take-all (g .columns * size) (drop headerBytes l) whole) (take-append-drop headerBytes l)
+      rw all (take-append-drop headerBytes l)

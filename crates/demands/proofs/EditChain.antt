@@ -1,41 +1,52 @@
--- D3 for any call that edits, whatever its answers are: a sequence of calls leaves the cell written afresh from the edited posts.
-use Prim.Native.Nat.{ℕ, _<_}
-use mathlib.Core.Path.{_≡_, refl, ap, _∙_}
+-- D3 for any call that edits, whatever its answers are: a sequence of calls leaves the headers and the columns of the edited words, which are the
+-- columns written afresh from the edited posts.
+use Prim.Native.Nat.{ℕ}
+use mathlib.Core.Path.{_≡_, refl, sym, ap, _∙_}
 use mathlib.Core.Bool.{Bool}
 use mathlib.Core.List.{List, [], _∷_, map}
-use lib.ListN.{getD, take}
+use lib.ListN.{take}
+use Rattle.octets.specs.Numbers.{Bytes}
 use Rattle.layout.specs.Grid.{headerBytes}
-use Rattle.headers.specs.Judged.{factsIn}
-use Rattle.headers.specs.declared.Facts.{Facts}
-use Rattle.reading.specs.Cell.{Cell}
-use Rattle.writing.specs.Grid.{afresh, gridIn}
+use Rattle.layout.specs.declared.Frame.{Frame}
+use Rattle.headers.specs.Judged.{frameIn}
+use Rattle.cells.specs.Cell.{Cell}
+use Rattle.cells.specs.Words.{cellOfWords, wordsOfCell}
+use Rattle.cells.specs.Grid.{afresh, gridIn}
+use Rattle.cells.proofs.FramedWords.{Made}
+use Rattle.cells.proofs.MadeCells.{Headed, made-cell, made-frame, cell-headed, cell-made, cell-remade}
 use Rattle.editing.specs.Edit.{edited}
-use Rattle.editing.specs.Sequence.{Call, takes, afterEdits, gridAfter}
-use Rattle.editing.proofs.AfterEdits.{after-one, edits-cell, edits-afresh}
+use Rattle.editing.specs.Sequence.{Call, takes, afterEdits, wordsWith, wordsAfter, gridAfter}
+use Rattle.editing.proofs.FrameEdits.{with-made}
+use Rattle.editing.proofs.EditWords.{edit-words, edits-left, edits-cell}
+use Rattle.editing.proofs.AfterEdits.{edits-grid, edits-afresh}
 
 module _ {A : Type 0} (isDone : A → Bool) where
   -- calls take bytes to bytes with these answers: each leaves what an edit leaves, and of a cell answers done exactly where it takes
   pub data Chain : List ℕ → List Call → List A → List ℕ → Type 0 where
     empty : {l : List ℕ} → Chain l [] [] l
     call : {es : List Call} {rs : List A} {l' : List ℕ} (l m : List ℕ) (e : Call) (r : A)
-        → m ≡ edited l (e .column) (e .post) (e .height) → (Cell l → isDone r ≡ takes (factsIn l) e) → Chain m es rs l' → Chain l (e ∷ es) (r ∷ rs) l'
+        → m ≡ edited l (e .column) (e .post) (e .height) → (Cell l → isDone r ≡ takes (frameIn l) e) → Chain m es rs l' → Chain l (e ∷ es) (r ∷ rs) l'
 
-  -- what they leave and answer: the edited cell, and done exactly where a call takes
+  -- what they leave and answer: the headers and the columns of the edited words, the edited posts, and done exactly where a call takes
   pub record Left (l : List ℕ) (es : List Call) (rs : List A) (l' : List ℕ) : Type 0 where
-    pub bytes : l' ≡ afresh (take headerBytes l) (factsIn l .grid) (gridAfter (factsIn l) (gridIn l) es)
+    pub words : l' ≡ cellOfWords (take headerBytes l) (frameIn l .grid) (wordsAfter (frameIn l) (wordsOfCell l) es)
+    pub grid : gridIn l' ≡ gridAfter (frameIn l) (gridIn l) es
+    pub bytes : l' ≡ afresh (take headerBytes l) (frameIn l .grid) (gridAfter (frameIn l) (gridIn l) es)
     pub cell : Cell l'
-    pub answers : map isDone rs ≡ map (takes (factsIn l)) es
+    pub answers : map isDone rs ≡ map (takes (frameIn l)) es
 
 module _ {A : Type 0} {isDone : A → Bool} where
-  chain-answered : {l l' : List ℕ} {es : List Call} {rs : List A} → Chain isDone l es rs l' → Cell l → ((i : ℕ) → getD l i 0 < 256)
-      → map isDone rs ≡ map (takes (factsIn l)) es
-  chain-answered empty cell bytes = refl
-  chain-answered (call {es = es} l m e r left answered rest) cell bytes =
-      let one = after-one l cell bytes e in
-      let later = chain-answered rest (rw left (one .cell)) (rw left (one .bytes)) in
-      let same : factsIn m ≡ factsIn l = ap factsIn left ∙ one .facts in
-      let after = later ∙ ap (λ (f : Facts). map (takes f) es) same in
-      λ k. answered cell k ∷ after k
+  -- under headers h that give the frame f, call after call moves the words alone
+  chain-answered : (f : Frame) (h : List ℕ) → Headed f h → {l l' : List ℕ} {es : List Call} {rs : List A} → Chain isDone l es rs l'
+      → (ws : List ℕ) → Made f h ws → l ≡ cellOfWords h (f .grid) ws → map isDone rs ≡ map (takes f) es
+  chain-answered f h headed empty ws made is = refl
+  chain-answered f h headed (call l m e r left answered rest) ws made is =
+      let first : isDone r ≡ takes f e =
+      answered (rw is (made-cell f h ws headed made)) ∙ ap (λ (x : Frame). takes x e) (ap frameIn is ∙ made-frame f h ws headed made)
+      in
+      let next = left ∙ ap (λ (s : List ℕ). edited s (e .column) (e .post) (e .height)) is ∙ edit-words f h headed ws made e in
+      let later = chain-answered f h headed rest (wordsWith f ws e) (with-made f h ws made e) next in
+      λ k. first k ∷ later k
 
   -- the bytes are those of the definition
   chain-bytes : {l l' : List ℕ} {es : List Call} {rs : List A} → Chain isDone l es rs l' → l' ≡ afterEdits l es
@@ -43,11 +54,14 @@ module _ {A : Type 0} {isDone : A → Bool} where
   chain-bytes empty = refl
   chain-bytes (call {es = es} l m e r left answered rest) = chain-bytes rest ∙ ap (λ (x : List ℕ). afterEdits x es) left
 
-  pub chain-left : (l l' : List ℕ) (es : List Call) (rs : List A) → Chain isDone l es rs l' → Cell l → ((i : ℕ) → getD l i 0 < 256) → Left isDone l es rs l'
+  pub chain-left : (l l' : List ℕ) (es : List Call) (rs : List A) → Chain isDone l es rs l' → Cell l → Bytes l → Left isDone l es rs l'
   chain-left l l' es rs chain cell bytes =
       let same = chain-bytes chain in
       record {
+        words = same ∙ edits-left l cell bytes es;
+        grid = ap gridIn same ∙ edits-grid l cell bytes es;
         bytes = same ∙ edits-afresh l cell bytes es;
         cell = rw same (edits-cell l cell bytes es);
-        answers = chain-answered chain cell bytes;
+        answers =
+            chain-answered (frameIn l) (take headerBytes l) (cell-headed l cell) chain (wordsOfCell l) (cell-made l cell) (sym (cell-remade l cell bytes));
       }

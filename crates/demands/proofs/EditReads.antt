@@ -1,10 +1,9 @@
 -- E2 over the calls' own promises, inner and exported: after an accepted edit of a cell a lookup of its post tells what was given, and a lookup of
 -- any other post what a lookup told before.
-use Prim.Native.Nat.{ℕ, _<_}
+use Prim.Native.Nat.{ℕ}
 use mathlib.Core.Path.{_≡_, sym, ap, _∙_}
 use mathlib.Core.List.{List}
 use lib.IntN.{ℤ}
-use lib.ListN.{getD}
 use contract.Lifetimes as L
 use denote.Ref.{now}
 use borrow.Fn.Kinds as K
@@ -14,9 +13,9 @@ use Rattle.answers.specs.declared.Outcome.the-variants.{Done}
 use Rattle.answers.proofs.Injective.{told-injective}
 use Rattle.packing.specs.Packed.{packed}
 use Rattle.packing.specs.Apart.{toldIn}
-use Rattle.reading.specs.Cell.{Cell}
-use Rattle.reaching.specs.Lookup.{lookedUp}
-use Rattle.writing.specs.Grid.{saidOf}
+use Rattle.octets.specs.Numbers.{Bytes}
+use Rattle.cells.specs.Cell.{Cell}
+use Rattle.reaching.specs.Lookup.{saidOf, lookedUp}
 use Rattle.editing.specs.Edit.{judgedEdit, editTold, edited}
 use Rattle.editing.proofs.EditExactly.{accepted-exactly}
 use Rattle.editing.proofs.LookupAfter.{edited-post, other-post}
@@ -32,7 +31,7 @@ use Rattle.demands.proofs.HostAnswers.{was-done}
 use Rattle.demands.proofs.HostTold.{post-told}
 
 -- after an edit that was judged done, in the bytes m that it left: what is told of its post, and of any other
-module _ (l : List ℕ) (cell : Cell l) (bytes : (i : ℕ) → getD l i 0 < 256) (c p : ℕ) (z : ℤ) (e : judgedEdit l c p z ≡ Done)
+module _ (l : List ℕ) (cell : Cell l) (bytes : Bytes l) (c p : ℕ) (z : ℤ) (e : judgedEdit l c p z ≡ Done)
     (m : List ℕ) (left : m ≡ edited l c p z) (k i : ℕ) where
   own-told : k ≡ c → i ≡ p → lookedUp m k i ≡ saidOf z
   own-told same-c same-p =
@@ -48,7 +47,7 @@ module _ (l : List ℕ) (cell : Cell l) (bytes : (i : ℕ) → getD l i 0 < 256)
 
 -- a call of the edit that keeps its promise and was done
 module _ (κs : L.Lfts 1) (a : K.Dens κs edit-kinds.ps) (r : _) (s : _) (kept : edit.Post κs a r s) (was : r ≡ Done)
-    (cell : Cell (now (a .0))) (bytes : (i : ℕ) → getD (now (a .0)) i 0 < 256) where
+    (cell : Cell (now (a .0))) (bytes : Bytes (now (a .0))) where
   judged-done : judgedEdit (now (a .0)) (a .1 .0) (a .1 .1 .0) (a .1 .1 .1 .0) ≡ Done
   unfolding editTold
   judged-done = sym (told-injective act r _ (kept .0)) ∙ was
@@ -71,7 +70,7 @@ module _ (κs : L.Lfts 1) (a : K.Dens κs edit-kinds.ps) (r : _) (s : _) (kept :
 
 -- the same for a C host: the edit answered 0
 module _ (κs : L.Lfts 1) (a : K.Dens κs host-edit-kinds.ps) (r : _) (s : _) (kept : host-edit.Post κs a r s) (was : r ≡ 0)
-    (cell : Cell (now (a .0))) (bytes : (i : ℕ) → getD (now (a .0)) i 0 < 256) where
+    (cell : Cell (now (a .0))) (bytes : Bytes (now (a .0))) where
   host-judged-done : judgedEdit (now (a .0)) (a .1 .0) (a .1 .1 .0) (a .1 .1 .1 .0) ≡ Done
   unfolding editTold
   host-judged-done = was-done (judgedEdit (now (a .0)) (a .1 .0) (a .1 .1 .0) (a .1 .1 .1 .0)) (sym (kept .0) ∙ was)

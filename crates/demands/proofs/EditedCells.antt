@@ -1,20 +1,20 @@
--- Demand 3 over the edit's own promise (rule D3): calls that keep it, in any sequence, leave the cell written afresh from the edited posts.
-use Prim.Native.Nat.{ℕ, _<_}
+-- Demand 3 over the edit's own promise (rule D3): calls that keep it, in any sequence, leave the cell with the edited words, written afresh from the edited posts.
+use Prim.Native.Nat.{ℕ}
 use mathlib.Core.Path.{_≡_, refl, sym, ap}
 use mathlib.Core.Bool.{Bool, true, false}
 use mathlib.Core.List.{List, [], _∷_}
-use lib.ListN.{getD}
 use contract.Lifetimes as L
 use borrow.Fn.Kinds as K
 use Rattle.answers.specs.Told.{act}
 use Rattle.answers.specs.declared.Outcome.{Outcome}
 use Rattle.answers.specs.declared.Outcome.the-variants.{Done, Refused}
 use Rattle.answers.proofs.Injective.{told-injective}
-use Rattle.headers.specs.Judged.{factsIn}
-use Rattle.reading.specs.Cell.{Cell}
+use Rattle.octets.specs.Numbers.{Bytes}
+use Rattle.headers.specs.Judged.{frameIn}
+use Rattle.cells.specs.Cell.{Cell}
 use Rattle.editing.specs.Edit.{judgedEdit, editTold}
 use Rattle.editing.specs.Sequence.{Call, takes}
-use Rattle.editing.proofs.AfterEdits.{edit-answered}
+use Rattle.editing.proofs.EditWords.{edit-answered}
 use Rattle.editing.proofs.edit.edit.Reads as edit
 use Rattle.editing.proofs.edit.edit.Kinds as kinds
 use Rattle.demands.proofs.EditChain.{Chain, empty, call, Left, chain-left}
@@ -41,16 +41,16 @@ pub data Edits : List ℕ → List Call → List Outcome → List ℕ → Type 1
 
 -- one call answers what is judged
 call-answered : (κs : L.Lfts 1) (a : K.Dens κs kinds.ps) (r : Outcome) (s : _) → edit.Post κs a r s → Cell (a .0 .now)
-    → isDone r ≡ takes (factsIn (a .0 .now)) (given κs a)
+    → isDone r ≡ takes (frameIn (a .0 .now)) (given κs a)
 unfolding editTold
 call-answered κs a r s promise cell =
     let e = given κs a in
     let same = told-injective act r (judgedEdit (a .0 .now) (e .column) (e .post) (e .height)) (promise .0) in
-    done-exactly (takes (factsIn (a .0 .now)) e) r (rw same (edit-answered (a .0 .now) cell e))
+    done-exactly (takes (frameIn (a .0 .now)) e) r (rw same (edit-answered (a .0 .now) cell e))
 
 chained : {l l' : List ℕ} {es : List Call} {rs : List Outcome} → Edits l es rs l' → Chain isDone l es rs l'
 chained none = empty
 chained (more κs a r s promise rest) = call (a .0 .now) (s .0 .now) (given κs a) r (promise .1) (call-answered κs a r s promise) (chained rest)
 
-pub edited-cells : (l l' : List ℕ) (es : List Call) (rs : List Outcome) → Edits l es rs l' → Cell l → ((i : ℕ) → getD l i 0 < 256) → Left isDone l es rs l'
+pub edited-cells : (l l' : List ℕ) (es : List Call) (rs : List Outcome) → Edits l es rs l' → Cell l → Bytes l → Left isDone l es rs l'
 edited-cells l l' es rs calls = chain-left l l' es rs (chained calls)

@@ -5,10 +5,11 @@ use Rattle.layout.specs.Levels.{latitudeInterval, postsOf}
 use Rattle.layout.specs.Zones.{nearEdge, factorAmong, factorOf}
 use Rattle.layout.specs.Grid.{longitudeInterval, columnsOf, cellBytes, gridOf}
 use Rattle.angles.specs.Angles.{edgeOf}
+use Rattle.octets.specs.Numbers.{bytesOfWords}
 use Rattle.octets.specs.Places.{places}
 use Rattle.octets.specs.Sums.{sumOf}
 use Rattle.octets.specs.Pastes.{pasted}
-use Rattle.columns.specs.Column.{preamble, wordsOf, sealed, columnOf}
+use Rattle.columns.specs.Column.{preamble, sealed, columnOfWords}
 use Rattle.posts.specs.Heights.{wordOf}
 use Rattle.posts.specs.Words.{heightOf, postOf, inRange, wordAllowed}
 use Rattle.storing.specs.Stored.{stored}
@@ -17,7 +18,7 @@ use Rattle.editing.specs.Edit.{storedIn}
 use Rattle.demands.specs.Marked.{Example, table, made, givens, answers}
 
 pub marked : map made givens ≡ answers
-unfolding made nearEdge factorAmong factorOf latitudeInterval postsOf longitudeInterval columnsOf cellBytes gridOf edgeOf southWest heightOf postOf inRange wordAllowed wordOf places sumOf preamble wordsOf sealed columnOf pasted stored storedIn
+unfolding made nearEdge factorAmong factorOf latitudeInterval postsOf longitudeInterval columnsOf cellBytes gridOf edgeOf southWest heightOf postOf inRange wordAllowed wordOf places sumOf preamble bytesOfWords sealed columnOfWords pasted stored storedIn
 marked = refl
 
 -- and none is missing: the marks of the table's rows

@@ -13,13 +13,12 @@ use Rattle.answers.specs.Told.{Told, refused, numbered, numberTold, placeTold, 
 use Rattle.answers.specs.declared.Refusal.{Refusal}
 use Rattle.answers.specs.declared.Outcome.{Outcome}
 use Rattle.answers.specs.declared.Outcome.the-variants.{Done, Refused}
-use Rattle.answers.proofs.Injective.{refusal-told}
+use Rattle.answers.proofs.Injective.{refusal-told, number-ranged}
 use Rattle.packing.specs.Packed.{packed}
 use Rattle.reading.specs.Intake.{taken}
 use Rattle.reading.proofs.IntakeExactly.{IntakeRow, bad-headers, cut, column, surplus, fine, row}
 use Rattle.dted.proofs.cells.dted_intake.Reads as intake
 use Rattle.dted.proofs.cells.dted_intake.Kinds as intake-kinds
-use Rattle.demands.proofs.PlacesFit.{number-ranged}
 
 -- no refusal is answered as 0
 never-0 : (r : Refusal) → packed (numbered r) ≡ 0 → ⊥

@@ -1,17 +1,17 @@
--- D3 for a C host: calls of the edit, each of which keeps its promise, in any sequence leave the cell written afresh.
-use Prim.Native.Nat.{ℕ, _<_}
+-- D3 for a C host: calls of the edit, each of which keeps its promise, in any sequence leave the cell with the edited words, written afresh.
+use Prim.Native.Nat.{ℕ}
 use mathlib.Core.Path.{_≡_}
 use mathlib.Core.Bool.{Bool}
 use mathlib.Core.List.{List, [], _∷_}
 use lib.Dec.{eqb}
-use lib.ListN.{getD}
 use contract.Lifetimes as L
 use borrow.Fn.Kinds as K
-use Rattle.headers.specs.Judged.{factsIn}
-use Rattle.reading.specs.Cell.{Cell}
+use Rattle.octets.specs.Numbers.{Bytes}
+use Rattle.headers.specs.Judged.{frameIn}
+use Rattle.cells.specs.Cell.{Cell}
 use Rattle.editing.specs.Edit.{judgedEdit, editTold}
 use Rattle.editing.specs.Sequence.{Call, takes}
-use Rattle.editing.proofs.AfterEdits.{edit-answered}
+use Rattle.editing.proofs.EditWords.{edit-answered}
 use Rattle.dted.proofs.cells.dted_edit.Reads as edit
 use Rattle.dted.proofs.cells.dted_edit.Kinds as edit-kinds
 use Rattle.demands.proofs.EditChain.{Chain, empty, call, Left, chain-left}
@@ -33,16 +33,16 @@ pub data Edits : List ℕ → List Call → List ℕ → List ℕ → Type 1 whe
 
 -- one call answers what is judged
 call-answered : (κs : L.Lfts 1) (a : K.Dens κs edit-kinds.ps) (r : ℕ) (s : _) → edit.Post κs a r s → Cell (a .0 .now)
-    → isDone r ≡ takes (factsIn (a .0 .now)) (given κs a)
+    → isDone r ≡ takes (frameIn (a .0 .now)) (given κs a)
 unfolding editTold
 call-answered κs a r s promise cell =
     let e = given κs a in
     let x = judgedEdit (a .0 .now) (e .column) (e .post) (e .height) in
-    rw (promise .0) (answer-is x (takes (factsIn (a .0 .now)) e) (edit-answered (a .0 .now) cell e))
+    rw (promise .0) (answer-is x (takes (frameIn (a .0 .now)) e) (edit-answered (a .0 .now) cell e))
 
 chained : {l l' : List ℕ} {es : List Call} {rs : List ℕ} → Edits l es rs l' → Chain isDone l es rs l'
 chained none = empty
 chained (more κs a r s promise rest) = call (a .0 .now) (s .0 .now) (given κs a) r (promise .1) (call-answered κs a r s promise) (chained rest)
 
-pub edited-cells : (l l' : List ℕ) (es : List Call) (rs : List ℕ) → Edits l es rs l' → Cell l → ((i : ℕ) → getD l i 0 < 256) → Left isDone l es rs l'
+pub edited-cells : (l l' : List ℕ) (es : List Call) (rs : List ℕ) → Edits l es rs l' → Cell l → Bytes l → Left isDone l es rs l'
 edited-cells l l' es rs calls = chain-left l l' es rs (chained calls)

@@ -1,6 +1,6 @@
 -- D2 for a C host: what a call of the writer leaves, where it answered 0, is read back whole by any later call.
 use Prim.Native.Nat.{ℕ, _<_}
-use mathlib.Core.Path.{_≡_, sym, ap, _∙_}
+use mathlib.Core.Path.{_≡_, sym, ap, subst, _∙_}
 use mathlib.Core.List.{List, _++_}
 use lib.IntN.{ℤ}
 use lib.ListN.{length, drop}
@@ -12,16 +12,18 @@ use Rattle.answers.specs.declared.Outcome.{Outcome}
 use Rattle.answers.specs.declared.Outcome.the-variants.{Done}
 use Rattle.packing.specs.Packed.{packed}
 use Rattle.describing.specs.Described.{described}
-use Rattle.describing.specs.Facts.{factsFor}
 use Rattle.describing.specs.ItemTable.{Item}
 use Rattle.describing.specs.declared.Described.{Described}
 use Rattle.reading.specs.Intake.{taken}
-use Rattle.reaching.specs.Lookup.{lookedUp}
-use Rattle.writing.specs.Cell.{cellOf}
+use Rattle.reaching.specs.Lookup.{saidOf, lookedUp}
+use Rattle.writing.specs.Cell.{postsDue, frameFor, cellOf}
 use Rattle.streaming.specs.Given.{outputAfter}
-use Rattle.writing.specs.Grid.{heightAt, saidOf}
+use Rattle.cells.specs.Grid.{heightAt}
 use Rattle.writing.proofs.Restores.{restored-description, restored-accepted, restored-post}
-use Rattle.wording.specs.Words.{heightsIn}
+use Rattle.sources.specs.Given.{inBytes, heightsInBytes}
+use Rattle.sources.proofs.GivenLaws.{counted, length-given, height-given}
+use Rattle.posts.specs.Heights.{heightAllowed}
+use Rattle.columns.proofs.ColumnHeights.{Held}
 use Rattle.numbering.specs.Items.{given, descriptionOf, numbersOf}
 use Rattle.hosting.specs.Cell.{judgedBytes, bytesTold, bytesOutput}
 use Rattle.hosting.proofs.BytesExactly.{Ready, ready}
@@ -42,7 +44,7 @@ module _ (κs : L.Lfts 3) (a : K.Dens κs write-kinds.ps) (r : _) (s : _) (kept 
   items = now (a .1 .0)
 
   abbrev pub heights : List ℤ
-  heights = heightsIn (now (a .1 .1 .0))
+  heights = heightsInBytes (now (a .1 .1 .0))
 
   -- the bytes that the call wrote
   abbrev pub cell : List ℕ
@@ -55,17 +57,27 @@ module _ (κs : L.Lfts 3) (a : K.Dens κs write-kinds.ps) (r : _) (s : _) (kept 
   fine : Ready items (now (a .1 .1 .0)) (length (now (a .0)))
   fine = ready items (now (a .1 .1 .0)) (length (now (a .0))) accepted-call
 
+  all : length heights ≡ postsDue (frameFor (descriptionOf items) .grid)
+  all =
+      let g = inBytes (now (a .1 .1 .0)) in
+      length-given g ∙ counted g (postsDue (frameFor (descriptionOf items) .grid)) (fine .fine .long)
+
+  held : Held (frameFor (descriptionOf items) .voids) heights
+  held i h =
+      let g = inBytes (now (a .1 .1 .0)) in
+      ap (heightAllowed (frameFor (descriptionOf items) .voids)) (height-given g i (subst (λ (n : ℕ). i < n) (length-given g) h))
+      ∙ fine .fine .held i (subst (λ (n : ℕ). i < n) all h)
+
   -- the output begins with them, and past them is as it was
   pub written : now (s .0) ≡ cell ++ drop (length cell) (now (a .0))
   unfolding bytesOutput
   written = kept .1 ∙ ap (λ (x : Outcome). outputAfter x cell (now (a .0))) accepted-call
 
   pub taken-back : (κs' : L.Lfts 1) (b : K.Dens κs' intake-kinds.ps) (q : _) (t : _) → now (b .0) ≡ cell → intake.Post κs' b q t
-      → q ≡ packed (accepted (factsFor (descriptionOf items) .grid .level) (factsFor (descriptionOf items) .grid .columns) (factsFor (descriptionOf items) .grid .posts))
+      → q ≡ packed (accepted (frameFor (descriptionOf items) .grid .level) (frameFor (descriptionOf items) .grid .columns) (frameFor (descriptionOf items) .grid .posts))
   taken-back κs' b q t same kept' =
-      let f = fine .fine .fine in
       kept' ∙ ap (λ (l : List ℕ). packed (taken l)) same
-      ∙ ap packed (restored-accepted (descriptionOf items) (in-range items (fine .numbers)) heights (f .long) (f .held))
+      ∙ ap packed (restored-accepted (descriptionOf items) (in-range items (fine .numbers)) heights all held)
 
   -- the thirteen numbers come back, each in its item's place
   pub described-back : (κs' : L.Lfts 2) (b : K.Dens κs' describe-kinds.ps) (q : _) (t : _) → now (b .0) ≡ cell → describe.Post κs' b q t
@@ -79,9 +91,8 @@ module _ (κs : L.Lfts 3) (a : K.Dens κs write-kinds.ps) (r : _) (s : _) (kept 
       (ap length back, λ i. ap (λ (zs : List ℤ). given zs i) back ∙ description-back items (fine .numbers) i)
 
   pub posts-back : (κs' : L.Lfts 1) (b : K.Dens κs' post-kinds.ps) (q : _) (t : _) → now (b .0) ≡ cell → post.Post κs' b q t
-      → b .1 .0 < factsFor (descriptionOf items) .grid .columns → b .1 .1 .0 < factsFor (descriptionOf items) .grid .posts
-      → q ≡ packed (saidOf (heightAt (factsFor (descriptionOf items) .grid .posts) heights (b .1 .0) (b .1 .1 .0)))
+      → b .1 .0 < frameFor (descriptionOf items) .grid .columns → b .1 .1 .0 < frameFor (descriptionOf items) .grid .posts
+      → q ≡ packed (saidOf (heightAt (frameFor (descriptionOf items) .grid .posts) heights (b .1 .0) (b .1 .1 .0)))
   posts-back κs' b q t same kept' hc hp =
-      let f = fine .fine .fine in
       kept' ∙ ap (λ (l : List ℕ). packed (lookedUp l (b .1 .0) (b .1 .1 .0))) same
-      ∙ ap packed (restored-post (descriptionOf items) (in-range items (fine .numbers)) heights (f .long) (f .held) (b .1 .0) (b .1 .1 .0) hc hp)
+      ∙ ap packed (restored-post (descriptionOf items) (in-range items (fine .numbers)) heights all held (b .1 .0) (b .1 .1 .0) hc hp)

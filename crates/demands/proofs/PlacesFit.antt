@@ -10,15 +10,18 @@ use lib.ListN.{length}
 use borrow.Author.Tests.{leb-true}
 use Rattle.octets.specs.Scan.{scan}
 use Rattle.octets.proofs.ChoiceLaws.{by-test}
-use Rattle.answers.specs.Told.{Told, refused, numbered, numberTold, placeTold, told, act}
+use Rattle.answers.specs.Told.{Told, refused, accepted, numbered, numberTold, placeTold, told, act}
 use Rattle.answers.specs.Told as telling
 use Rattle.answers.specs.declared.Refusal.{Refusal}
 use Rattle.answers.specs.declared.Refusal.the-variants as because
 use Rattle.answers.specs.declared.Outcome.{Outcome}
-use Rattle.answers.proofs.Injective.{refusal-told}
+use Rattle.answers.proofs.Injective.{refusal-told, number-ranged}
 use Rattle.packing.specs.Apart.{FitsHeight, Fits}
+use Rattle.packing.specs.Apart as fits
 use Rattle.layout.specs.declared.Grid.{Grid}
-use Rattle.layout.proofs.Ranges.{Ranged, ranged}
+use Rattle.layout.specs.declared.Frame.{Frame}
+use Rattle.layout.specs.Ranges.{Ranged}
+use Rattle.layout.proofs.Ranges.{ranged}
 use Rattle.layout.specs.Levels.{postsOf, columnBytes}
 use Rattle.layout.specs.Grid.{gridOf}
 use Rattle.posts.specs.Words.{postOf, inRange}
@@ -27,7 +30,7 @@ use Rattle.posts.proofs.PostWords.{up-in-range, down-in-range}
 use Rattle.posts.proofs.Readings.{Reads}
 use Rattle.posts.proofs.Readings as reads
 use Rattle.fields.specs.Table.{fieldAt}
-use Rattle.headers.specs.Judged.{judged, factsIn, voidsAllowed, Follows}
+use Rattle.headers.specs.Judged.{judged, factsIn, frameOf, frameIn, Follows}
 use Rattle.headers.specs.declared.Judged.{Judged}
 use Rattle.headers.specs.declared.Judged.the-variants as headers
 use Rattle.headers.proofs.Exactly.{Answer, short, breaks, good, answered, follows-good}
@@ -38,7 +41,7 @@ use Rattle.columns.specs.declared.Judged as Columns
 use Rattle.columns.specs.declared.Judged.the-variants as columns
 use Rattle.columns.specs.Column.{wordIn, GoodColumn}
 use Rattle.columns.proofs.Damage.{judged-in}
-use Rattle.reading.specs.Cell.{startOf, columnAt}
+use Rattle.cells.specs.Cell.{startOf, columnAt}
 use Rattle.reaching.specs.Lookup.{postReads, readingOf, lookedUp}
 use Rattle.reaching.specs.Reach.{reached}
 use Rattle.reaching.specs.declared.reach.Reached.{Reached}
@@ -46,7 +49,8 @@ use Rattle.reaching.specs.declared.reach.Reached.the-variants as reach
 use Rattle.reaching.proofs.ReachedExactly as exactly
 use Rattle.locating.specs.Position.{nearestColumn, nearestPost, saidAt, readAt, located}
 use Rattle.locating.proofs.PositionExactly as position
-use Rattle.writing.proofs.Joined.{part-within}
+use Rattle.octets.proofs.JoinedLaws.{part-within}
+use Rattle.sources.specs.Given.{Given}
 use Rattle.streaming.proofs.GivenExactly.{GivenRow, differs, not-held, no-room, fine}
 use Rattle.streaming.proofs.NumberExactly.{NumberRow, level-past, number-past, then-rest}
 use Rattle.editing.specs.Edit.{judgedEdit, editTold}
@@ -57,24 +61,9 @@ use Rattle.reading.specs.Intake.{orRest, judgeNext, ended, columnsFrom, takenBy
 abbrev pub most : ℕ
 most = 25981042
 
--- every refusal has a number of 8 bits that is not 0
-pub number-ranged : (r : Refusal) → (0 < numberTold (numbered r)) × (numberTold (numbered r) < 256)
-number-ranged (because.Short n) = (lit< tt, lit< tt)
-number-ranged (because.Field n) = (lit< tt, lit< tt)
-number-ranged (because.Cut n) = (lit< tt, lit< tt)
-number-ranged (because.Preamble n) = (lit< tt, lit< tt)
-number-ranged (because.Checksum n) = (lit< tt, lit< tt)
-number-ranged (because.Word n) = (lit< tt, lit< tt)
-number-ranged (because.Surplus n) = (lit< tt, lit< tt)
-number-ranged because.OffGrid = (lit< tt, lit< tt)
-number-ranged (because.Item n) = (lit< tt, lit< tt)
-number-ranged (because.GridLength n) = (lit< tt, lit< tt)
-number-ranged (because.Height n) = (lit< tt, lit< tt)
-number-ranged (because.Room n) = (lit< tt, lit< tt)
-
 -- a number and a place of the longest cell fit
 pub small-fits : (number place : ℕ) → 0 < number → number < 256 → place ≤ most → Fits (refused number place)
-small-fits number place some small h = (some, (small, omega arith))
+small-fits number place some small h = fits.refused number place some small (omega arith)
 
 -- a refusal fits where its place is not past that
 pub numbered-fits : (r : Refusal) → placeTold (numbered r) ≤ most → Fits (numbered r)
@@ -83,7 +72,12 @@ numbered-fits r h =
     subst Fits (sym (refusal-told r)) (small-fits (numberTold (numbered r)) (placeTold (numbered r)) (n .0) (n .1) h)
 
 off-grid-fits : Fits (refused 8 0)
-off-grid-fits = (lit< tt, (lit< tt, lit< tt))
+off-grid-fits = fits.refused 8 0 (lit< tt) (lit< tt) (lit< tt)
+
+-- a grid in its ranges fits
+pub ranged-fits : (g : Grid) → Ranged g → Fits (accepted (g .level) (g .columns) (g .posts))
+ranged-fits g r =
+    fits.accepted (g .level) (g .columns) (g .posts) (omega (arith, r .level)) (omega (arith, r .columns-high)) (omega (arith, r .posts-high))
 
 -- a height that a cell may hold has 16 bits, and is not void's number
 pub height-fits : (z : ℤ) → inRange z ≡ true → FitsHeight z
@@ -109,36 +103,37 @@ column-fits s k posts voids base small r e =
     let there : RefusedIn base (base + (12 + 2 * posts)) (columns.Refused r) = subst (RefusedIn base (base + (12 + 2 * posts))) e inside in
     numbered-fits r (omega (arith, there .1))
 
-module _ (s : List ℕ) (g : Grid) (voids : Bool) (in-range : Ranged g) where
-  -- no column of a grid ends past the longest cell
-  end-small : (k : ℕ) → k < g .columns → startOf g k + g .bytes .column ≤ most
-  end-small k h = omega (arith, part-within k (g .columns) (g .bytes .column) h, in-range .cell, in-range .cell-high)
+-- no column of a grid ends past the longest cell
+end-small : (g : Grid) → Ranged g → (k : ℕ) → k < g .columns → startOf g k + g .bytes .column ≤ most
+end-small g in-range k h = omega (arith, part-within k (g .columns) (g .bytes .column) h, in-range .cell, in-range .cell-high)
 
-  ended-fits : (long : ℕ) → Fits (ended long g)
+module _ (s : List ℕ) (f : Frame) (in-range : Ranged (f .grid)) where
+  ended-fits : (long : ℕ) → Fits (ended long (f .grid))
   unfolding ended
   ended-fits long =
-      by-test (eqb long (g .bytes .cell))
-      (λ e. rw e (omega (arith, in-range .level), (omega (arith, in-range .columns-high), omega (arith, in-range .posts-high))))
-      (λ e. rw e (small-fits 7 (g .bytes .cell) (lit< tt) (lit< tt) (in-range .cell-high)))
+      by-test (eqb long (f .grid .bytes .cell))
+      (λ e. rw e (ranged-fits (f .grid) in-range))
+      (λ e. rw e (small-fits 7 (f .grid .bytes .cell) (lit< tt) (lit< tt) (in-range .cell-high)))
 
   -- a column's refusal, or the rest
-  next-fits : (k : ℕ) → k < g .columns → (x : Columns.Judged) → judgedColumn (columnAt s g k) k (g .posts) voids (startOf g k) ≡ x
-      → (rest : Told) → Fits rest → Fits (orRest x rest)
-  next-fits k h columns.Good e rest f = f
-  next-fits k h (columns.Refused r) e rest f =
-      column-fits (columnAt s g k) k (g .posts) voids (startOf g k) (omega (arith, end-small k h, in-range .column)) r e
+  next-fits : (k : ℕ) → k < f .grid .columns → (x : Columns.Judged)
+      → judgedColumn (columnAt s (f .grid) k) k (f .grid .posts) (f .voids) (startOf (f .grid) k) ≡ x → (rest : Told) → Fits rest → Fits (orRest x rest)
+  next-fits k h columns.Good e rest fit = fit
+  next-fits k h (columns.Refused r) e rest fit =
+      column-fits (columnAt s (f .grid) k) k (f .grid .posts) (f .voids) (startOf (f .grid) k) (omega (arith, end-small (f .grid) in-range k h, in-range .column)) r e
 
-  columns-fit : (k n : ℕ) → k + n ≤ g .columns → Fits (columnsFrom s g voids k n)
+  columns-fit : (k n : ℕ) → k + n ≤ f .grid .columns → Fits (columnsFrom s f k n)
   unfolding scan judgeNext
   columns-fit k zero h = ended-fits (length s)
   columns-fit k (suc n) h =
+      let g = f .grid in
       let here : k < g .columns = omega arith in
       by-test (leb (startOf g k + g .bytes .column) (length s))
-      (λ e. rw e (next-fits k here (judgedColumn (columnAt s g k) k (g .posts) voids (startOf g k)) refl _ (columns-fit (k + 1) n (omega arith))))
-      (λ e. rw e (small-fits 3 (startOf g k) (lit< tt) (lit< tt) (omega (arith, end-small k here))))
+      (λ e. rw e (next-fits k here (judgedColumn (columnAt s g k) k (g .posts) (f .voids) (startOf g k)) refl _ (columns-fit (k + 1) n (omega arith))))
+      (λ e. rw e (small-fits 3 (startOf g k) (lit< tt) (lit< tt) (omega (arith, end-small g in-range k here))))
 
 intake-by : (s : List ℕ) (x : Judged) → judged s ≡ x → Fits (takenBy s x)
-intake-by s (headers.Good f) e = columns-fit s (f .grid) (voidsAllowed f) (good-facts s f e .grid) 0 (f .grid .columns) (omega arith)
+intake-by s (headers.Good f) e = columns-fit s (frameOf f) (good-facts s f e .grid) 0 (f .grid .columns) (omega arith)
 intake-by s (headers.Refused r) e = headers-fit s r e
 
 -- intake
@@ -148,29 +143,29 @@ intake-fits s = intake-by s (judged s) refl
 
 -- a post that is reached, or not, under what is said of it
 module _ (s : List ℕ) (c p : ℕ) where
-  follows-ranged : Follows s → Ranged (factsIn s .grid)
+  follows-ranged : Follows s → Ranged (frameIn s .grid)
   follows-ranged h = good-facts s (factsIn s) (follows-good s h) .grid
 
   refused-fits : (x : Reached) → exactly.Row s c p x → (r : Refusal) → x ≡ reach.Refused r → Fits (numbered r)
   refused-fits _ (exactly.bad-headers r e) q same = let t : r ≡ q = cc in subst (λ (y : Refusal). Fits (numbered y)) t (headers-fit s r e)
   refused-fits _ (exactly.off h away) q same = let t : because.OffGrid ≡ q = cc in subst (λ (y : Refusal). Fits (numbered y)) t off-grid-fits
   refused-fits _ (exactly.cut o cut-off) q same =
-      let t : because.Cut (startOf (factsIn s .grid) c) ≡ q = cc in
+      let t : because.Cut (startOf (frameIn s .grid) c) ≡ q = cc in
       subst (λ (y : Refusal). Fits (numbered y)) t
-      (small-fits 3 (startOf (factsIn s .grid) c) (lit< tt) (lit< tt)
-      (omega (arith, end-small s (factsIn s .grid) true (follows-ranged (o .headers)) c (o .column))))
+      (small-fits 3 (startOf (frameIn s .grid) c) (lit< tt) (lit< tt)
+      (omega (arith, end-small (frameIn s .grid) (follows-ranged (o .headers)) c (o .column))))
   refused-fits _ (exactly.column o whole r e) q same =
       let t : r ≡ q = cc in
       let g = follows-ranged (o .headers) in
       subst (λ (y : Refusal). Fits (numbered y)) t
-      (column-fits _ c (factsIn s .grid .posts) (voidsAllowed (factsIn s)) (startOf (factsIn s .grid) c)
-      (omega (arith, end-small s (factsIn s .grid) true g c (o .column), g .column)) r e)
+      (column-fits _ c (frameIn s .grid .posts) (frameIn s .voids) (startOf (frameIn s .grid) c)
+      (omega (arith, end-small (frameIn s .grid) g c (o .column), g .column)) r e)
   refused-fits _ (exactly.good o whole g) q same = let z : _≡_ {A = ℕ} 0 1 = cc in absurd (omega arith)
 
   -- the word of a good column reads as a height in range, or as void
-  allowed-reads : exactly.OnGrid s c p → GoodColumn (columnAt s (factsIn s .grid) c) c (factsIn s .grid .posts) (voidsAllowed (factsIn s))
-      → Reads (voidsAllowed (factsIn s)) (postOf (wordIn (columnAt s (factsIn s .grid) c) p))
-  allowed-reads o g = reads.reads (voidsAllowed (factsIn s)) (wordIn (columnAt s (factsIn s .grid) c) p) (g .words p (o .post))
+  allowed-reads : exactly.OnGrid s c p → GoodColumn (columnAt s (frameIn s .grid) c) c (frameIn s .grid .posts) (frameIn s .voids)
+      → Reads (frameIn s .voids) (postOf (wordIn (columnAt s (frameIn s .grid) c) p))
+  allowed-reads o g = reads.reads (frameIn s .voids) (wordIn (columnAt s (frameIn s .grid) c) p) (g .words p (o .post))
 
   post-fits-by : (x : Reached) → exactly.Row s c p x → Fits (told telling.post (readingOf x))
   post-fits-by _ (exactly.bad-headers r e) = refused-fits _ (exactly.bad-headers r e) r refl
@@ -179,9 +174,9 @@ module _ (s : List ℕ) (c p : ℕ) where
   post-fits-by _ (exactly.column o whole r e) = refused-fits _ (exactly.column o whole r e) r refl
   post-fits-by _ (exactly.good o whole g) = said-fits (allowed-reads o g)
     where
-      said-fits : {x : Post} → Reads (voidsAllowed (factsIn s)) x → Fits (told telling.post (postReads x))
-      said-fits (reads.height z e) = height-fits z e
-      said-fits (reads.void e) = tt
+      said-fits : {x : Post} → Reads (frameIn s .voids) x → Fits (told telling.post (postReads x))
+      said-fits (reads.height z e) = fits.height z (height-fits z e)
+      said-fits (reads.void e) = fits.void
 
   near-fits-by : (x : Reached) → exactly.Row s c p x → Fits (readAt c p x)
   near-fits-by _ (exactly.bad-headers r e) = refused-fits _ (exactly.bad-headers r e) r refl
@@ -195,9 +190,9 @@ module _ (s : List ℕ) (c p : ℕ) where
           let f = follows-ranged (o .headers) in
           (omega (arith, o .column, f .columns-high), omega (arith, o .post, f .posts-high))
 
-      said-fits : {x : Post} → Reads (voidsAllowed (factsIn s)) x → Fits (saidAt c p (postReads x))
-      said-fits (reads.height z e) = (small .0, (small .1, height-fits z e))
-      said-fits (reads.void e) = small
+      said-fits : {x : Post} → Reads (frameIn s .voids) x → Fits (saidAt c p (postReads x))
+      said-fits (reads.height z e) = fits.heightAt c p z (small .0) (small .1) (height-fits z e)
+      said-fits (reads.void e) = fits.voidAt c p (small .0) (small .1)
 
 -- post lookup
 pub post-fits : (s : List ℕ) (c p : ℕ) → Fits (lookedUp s c p)
@@ -209,7 +204,7 @@ position-by : (s : List ℕ) (latitude longitude : ℤ) (t : Told) → position.
 position-by s latitude longitude _ (position.bad-headers r e) = headers-fit s r e
 position-by s latitude longitude _ (position.off f j e) = off-grid-fits
 position-by s latitude longitude _ (position.near f j k e) =
-    near-fits-by s (nearestColumn f k) (nearestPost f k) (reached s (nearestColumn f k) (nearestPost f k)) (exactly.row s (nearestColumn f k) (nearestPost f k))
+    near-fits-by s (nearestColumn (f .grid) k) (nearestPost (f .grid) k) (reached s (nearestColumn (f .grid) k) (nearestPost (f .grid) k)) (exactly.row s (nearestColumn (f .grid) k) (nearestPost (f .grid) k))
 
 pub position-fits : (s : List ℕ) (latitude longitude : ℤ) → Fits (located s latitude longitude)
 position-fits s latitude longitude = position-by s latitude longitude (located s latitude longitude) (position.row s latitude longitude)
@@ -217,27 +212,27 @@ position-fits s latitude longitude = position-by s latitude longitude (located s
 -- the edit
 edit-by : (s : List ℕ) (c p : ℕ) (z : ℤ) (x : Outcome) → editing.EditRow s c p z x → Fits (told act x)
 edit-by s c p z _ (editing.reaching r row) = refused-fits s c p (reach.Refused r) row r refl
-edit-by s c p z _ (editing.height r bad) = (lit< tt, (lit< tt, lit< tt))
-edit-by s c p z _ (editing.done r a) = tt
+edit-by s c p z _ (editing.height r bad) = fits.refused 11 0 (lit< tt) (lit< tt) (lit< tt)
+edit-by s c p z _ (editing.done r a) = fits.done
 
 pub edit-fits : (s : List ℕ) (c p : ℕ) (z : ℤ) → Fits (editTold s c p z)
 unfolding editTold
 edit-fits s c p z = edit-by s c p z (judgedEdit s c p z) (editing.row s c p z)
 
 -- the writers
-pub given-fits : (posts bytes : ℕ) (voids : Bool) (zs : List ℤ) (room : ℕ) → posts ≤ most → bytes ≤ most
-    → (x : Outcome) → GivenRow posts bytes voids zs room x → Fits (told act x)
-given-fits posts bytes voids zs room hp hb _ (differs e) = small-fits 10 posts (lit< tt) (lit< tt) hp
-given-fits posts bytes voids zs room hp hb _ (not-held l n h bad f) = small-fits 11 n (lit< tt) (lit< tt) (omega arith)
-given-fits posts bytes voids zs room hp hb _ (no-room l f h) = small-fits 12 bytes (lit< tt) (lit< tt) hb
-given-fits posts bytes voids zs room hp hb _ (fine l f h) = tt
+pub given-fits : (posts bytes : ℕ) (voids : Bool) (g : Given) (room : ℕ) → posts ≤ most → bytes ≤ most
+    → (x : Outcome) → GivenRow posts bytes voids g room x → Fits (told act x)
+given-fits posts bytes voids g room hp hb _ (differs e) = small-fits 10 posts (lit< tt) (lit< tt) hp
+given-fits posts bytes voids g room hp hb _ (not-held l n h bad f) = small-fits 11 n (lit< tt) (lit< tt) (omega arith)
+given-fits posts bytes voids g room hp hb _ (no-room l f h) = small-fits 12 bytes (lit< tt) (lit< tt) hb
+given-fits posts bytes voids g room hp hb _ (fine l f h) = fits.done
 
 -- of a column, where what is judged after its number fits
 pub number-fits : (level number : ℕ) (Rest : Outcome → Type 0)
     → (postsOf level ≤ most → columnBytes (postsOf level) ≤ most → (x : Outcome) → Rest x → Fits (told act x))
     → (x : Outcome) → NumberRow level number Rest x → Fits (told act x)
 unfolding gridOf
-number-fits level number Rest f _ (level-past h) = (lit< tt, (lit< tt, lit< tt))
+number-fits level number Rest f _ (level-past h) = fits.refused 9 1 (lit< tt) (lit< tt) (lit< tt)
 number-fits level number Rest f _ (number-past h u) = off-grid-fits
 number-fits level number Rest f x (then-rest _ h u r) =
     let g = ranged level 0 h (lit< tt) in

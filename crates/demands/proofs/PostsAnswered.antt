@@ -20,8 +20,9 @@ use Rattle.posts.proofs.Readings.{Reads}
 use Rattle.headers.specs.Judged.{factsIn, voidsAllowed}
 use Rattle.headers.proofs.Exactly.{follows-good}
 use Rattle.columns.specs.Column.{wordIn}
-use Rattle.reading.specs.Cell.{columnAt, Cell}
-use Rattle.reading.proofs.CellExactly.{post-reads, column-whole}
+use Rattle.cells.specs.Cell.{columnAt, Cell}
+use Rattle.cells.proofs.ColumnPlaces.{column-whole}
+use Rattle.reading.proofs.CellExactly.{post-reads}
 use Rattle.reaching.specs.Lookup.{postReads, lookedUp}
 use Rattle.reaching.proofs.LookupLaws.{post-found, same-post}
 use Rattle.reaching.proofs.ReachedExactly.{endIn, good, given}
@@ -29,7 +30,7 @@ use Rattle.locating.specs.Position.{nearest, saidAt, readAt, located}
 use Rattle.locating.specs.declared.position.Along.the-variants.{On}
 use Rattle.locating.proofs.Nearest.{AsNear}
 use Rattle.locating.proofs.PositionExactly.{northOf, eastOf, nearest-answered}
-use Rattle.writing.proofs.OwnGrid.{cell-facts}
+use Rattle.cells.proofs.MadeCells.{cell-facts}
 use Rattle.reaching.proofs.lookup.look_up.Reads as look-up
 use Rattle.reaching.proofs.lookup.look_up.Kinds as look-up-kinds
 use Rattle.locating.proofs.position.locate.Reads as locate
@@ -72,9 +73,9 @@ position-answered-so l cell latitude longitude north east n e =
     let c = nearest dx (east / dx) (east % dx) in
     let p = nearest dy (north / dy) (north % dy) in
     let near = nearest-answered l latitude longitude f (follows-good l (cell .headers)) north east n e in
-    let whole = column-whole l (f .grid) c (cell-facts l cell .grid) (cell .long) (near .on-columns) in
+    let whole = column-whole l (f .grid) c (cell-facts l cell .grid) (cell .framed .long) (near .on-columns) in
     let there =
-    given l c p _ (good (record { headers = cell .headers; column = near .on-columns; post = near .on-posts }) whole (cell .columns c (near .on-columns)))
+    given l c p _ (good (record { headers = cell .headers; column = near .on-columns; post = near .on-posts }) whole (cell .framed .columns c (near .on-columns)))
     in
     record {
       column = c;

@@ -18,13 +18,13 @@ use Rattle.describing.specs.Described.{described}
 use Rattle.describing.specs.declared.Described.{Described}
 use Rattle.describing.specs.declared.Described.the-variants as describing
 use Rattle.streaming.specs.Given.{outputAfter}
-use Rattle.streaming.specs.Column.{judgedColumn, columnTold, columnOutput}
+use Rattle.streaming.specs.Column.{judgedColumn, givenTold, givenOutput, columnTold, columnOutput}
 use Rattle.columns.specs.Column.{columnOf}
 use Rattle.writing.specs.Cell.{judgedCell, cellOf, cellTold, cellOutput}
-use Rattle.wording.specs.Words.{heightsIn}
+use Rattle.sources.specs.Given.{numbers, inBytes, heightsInBytes}
 use Rattle.numbering.specs.Items.{descriptionOf}
 use Rattle.hosting.specs.Cell.{judgedBytes, bytesTold, bytesOutput}
-use Rattle.hosting.specs.Column.{judgedColumnBytes, columnBytesTold, columnBytesOutput}
+use Rattle.hosting.specs.Column.{columnBytesTold, columnBytesOutput}
 use Rattle.editing.specs.Edit.{judgedEdit, editTold, edited}
 use Rattle.editing.proofs.EditExactly.{refused-leaves}
 use Rattle.dted.specs.Description.{saidOfDescribed, itemsAfter}
@@ -80,11 +80,11 @@ edit-leaves l c p z = edit-by l c p z (judgedEdit l c p z) refl
 
 bytes-leaves : (items : List ℤ) (grid out : List ℕ) → Leaves (bytesTold items grid out) out (bytesOutput items grid out)
 unfolding bytesTold bytesOutput
-bytes-leaves items grid out = output-leaves (judgedBytes items grid (length out)) (cellOf (descriptionOf items) (heightsIn grid)) out
+bytes-leaves items grid out = output-leaves (judgedBytes items grid (length out)) (cellOf (descriptionOf items) (heightsInBytes grid)) out
 
 column-bytes-leaves : (level number : ℕ) (posts out : List ℕ) → Leaves (columnBytesTold level number posts out) out (columnBytesOutput level number posts out)
-unfolding columnBytesTold columnBytesOutput
-column-bytes-leaves level number posts out = output-leaves (judgedColumnBytes level number posts (length out)) (columnOf number (heightsIn posts)) out
+unfolding givenTold givenOutput
+column-bytes-leaves level number posts out = output-leaves (judgedColumn level number (inBytes posts) (length out)) (columnOf number (heightsInBytes posts)) out
 
 -- the inner calls
 pub edit-refused : (κs : L.Lfts 1) (a : K.Dens κs edit-kinds.ps) (r : _) (s : _) → edit.Post κs a r s
@@ -98,7 +98,7 @@ write-refused κs a r s kept =
     let d = a .1 .0 in
     let zs = now (a .1 .1 .0) in
     let out = now (a .0) in
-    told-so _ (told act r) _ _ _ (kept .0) (kept .1) (output-leaves (judgedCell d zs (length out)) (cellOf d zs) out)
+    told-so _ (told act r) _ _ _ (kept .0) (kept .1) (output-leaves (judgedCell d (numbers zs) (length out)) (cellOf d zs) out)
 
 pub write-column-refused : (κs : L.Lfts 2) (a : K.Dens κs write-column-kinds.ps) (r : _) (s : _) → write-column.Post κs a r s
     → 0 < numberTold (told act r) → now (s .0) ≡ now (a .0)
@@ -107,7 +107,7 @@ write-column-refused κs a r s kept =
     let k = a .1 .1 .0 in
     let zs = now (a .1 .1 .1 .0) in
     let out = now (a .0) in
-    told-so _ (told act r) _ _ _ (kept .0) (kept .1) (output-leaves (judgedColumn (a .1 .0) k zs (length out)) (columnOf k zs) out)
+    told-so _ (told act r) _ _ _ (kept .0) (kept .1) (output-leaves (judgedColumn (a .1 .0) k (numbers zs) (length out)) (columnOf k zs) out)
 
 pub write-bytes-refused : (κs : L.Lfts 3) (a : K.Dens κs write-bytes-kinds.ps) (r : _) (s : _) → write-bytes.Post κs a r s
     → 0 < numberTold (told act r) → now (s .0) ≡ now (a .0)

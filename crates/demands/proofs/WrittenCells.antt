@@ -1,6 +1,6 @@
 -- D2 over the promises themselves: what a call of the writer leaves, where it was done, is read back whole by any later call.
 use Prim.Native.Nat.{ℕ, _<_}
-use mathlib.Core.Path.{_≡_, sym, ap, _∙_}
+use mathlib.Core.Path.{_≡_, sym, ap, subst, _∙_}
 use mathlib.Core.List.{List, _++_}
 use lib.IntN.{ℤ}
 use lib.ListN.{length, drop}
@@ -21,12 +21,13 @@ use Rattle.reading.proofs.intake.intake.Kinds as intake-kinds
 use Rattle.reaching.proofs.lookup.look_up.Reads as look-up
 use Rattle.reaching.proofs.lookup.look_up.Kinds as look-up-kinds
 use Rattle.reading.specs.Intake.{taken}
-use Rattle.reaching.specs.Lookup.{lookedUp}
+use Rattle.reaching.specs.Lookup.{saidOf, lookedUp}
 use Rattle.describing.specs.Described.{described}
-use Rattle.describing.specs.Facts.{factsFor}
-use Rattle.writing.specs.Cell.{judgedCell, cellOf, cellTold, cellOutput}
+use Rattle.writing.specs.Cell.{frameFor, judgedCell, cellOf, cellTold, cellOutput}
 use Rattle.streaming.specs.Given.{outputAfter}
-use Rattle.writing.specs.Grid.{heightAt, saidOf}
+use Rattle.cells.specs.Grid.{heightAt}
+use Rattle.sources.specs.Given.{numbers}
+use Rattle.columns.proofs.ColumnHeights.{Held}
 use Rattle.writing.proofs.CellExactly.{Ready, ready}
 use Rattle.writing.proofs.Restores.{restored-description, restored-accepted, restored-post}
 use Rattle.writing.proofs.cell.write.Reads as write
@@ -44,12 +45,15 @@ module _ (κs : L.Lfts 2) (a : K.Dens κs write-kinds.ps) (r : _) (s : _) (kept 
   abbrev pub cell : List ℕ
   cell = cellOf given grid
 
-  accepted-call : judgedCell given grid (length (now (a .0))) ≡ Done
+  accepted-call : judgedCell given (numbers grid) (length (now (a .0))) ≡ Done
   unfolding cellTold
-  accepted-call = told-injective act (judgedCell given grid (length (now (a .0)))) Done (sym (kept .0) ∙ was)
+  accepted-call = told-injective act (judgedCell given (numbers grid) (length (now (a .0)))) Done (sym (kept .0) ∙ was)
 
-  fine : Ready given grid (length (now (a .0)))
-  fine = ready given grid (length (now (a .0))) accepted-call
+  fine : Ready given (numbers grid) (length (now (a .0)))
+  fine = ready given (numbers grid) (length (now (a .0))) accepted-call
+
+  held : Held (frameFor given .voids) grid
+  held i h = fine .fine .held i (subst (λ (n : ℕ). i < n) (fine .fine .long) h)
 
   -- the output begins with them, and past them is as it was
   pub written : now (s .0) ≡ cell ++ drop (length cell) (now (a .0))
@@ -58,8 +62,8 @@ module _ (κs : L.Lfts 2) (a : K.Dens κs write-kinds.ps) (r : _) (s : _) (kept 
 
   -- intake of them accepts
   pub taken-back : (κs' : L.Lfts 1) (b : K.Dens κs' intake-kinds.ps) (q : _) (t : _) → now (b .0) ≡ cell → intake.Post κs' b q t
-      → told telling.intake q ≡ accepted (factsFor given .grid .level) (factsFor given .grid .columns) (factsFor given .grid .posts)
-  taken-back κs' b q t same post = post ∙ ap taken same ∙ restored-accepted given (fine .ranged) grid (fine .fine .long) (fine .fine .held)
+      → told telling.intake q ≡ accepted (frameFor given .grid .level) (frameFor given .grid .columns) (frameFor given .grid .posts)
+  taken-back κs' b q t same post = post ∙ ap taken same ∙ restored-accepted given (fine .ranged) grid (fine .fine .long) held
 
   -- the description reader gives the description back
   pub described-back : (κs' : L.Lfts 1) (b : K.Dens κs' describe-kinds.ps) (q : _) (t : _) → now (b .0) ≡ cell → describe.Post κs' b q t → q ≡ As given
@@ -67,8 +71,8 @@ module _ (κs : L.Lfts 2) (a : K.Dens κs write-kinds.ps) (r : _) (s : _) (kept 
 
   -- and lookup gives each post of the grid
   pub posts-back : (κs' : L.Lfts 1) (b : K.Dens κs' look-up-kinds.ps) (q : _) (t : _) → now (b .0) ≡ cell → look-up.Post κs' b q t
-      → b .1 .0 < factsFor given .grid .columns → b .1 .1 .0 < factsFor given .grid .posts
-      → told telling.post q ≡ saidOf (heightAt (factsFor given .grid .posts) grid (b .1 .0) (b .1 .1 .0))
+      → b .1 .0 < frameFor given .grid .columns → b .1 .1 .0 < frameFor given .grid .posts
+      → told telling.post q ≡ saidOf (heightAt (frameFor given .grid .posts) grid (b .1 .0) (b .1 .1 .0))
   posts-back κs' b q t same post hc hp =
       post ∙ ap (λ (l : List ℕ). lookedUp l (b .1 .0) (b .1 .1 .0)) same
-      ∙ restored-post given (fine .ranged) grid (fine .fine .long) (fine .fine .held) (b .1 .0) (b .1 .1 .0) hc hp
+      ∙ restored-post given (fine .ranged) grid (fine .fine .long) held (b .1 .0) (b .1 .1 .0) hc hp

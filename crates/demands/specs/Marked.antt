@@ -67,7 +67,7 @@ cellAt level up right = record {
 }
 
 abbrev pub nearestIs : Facts → Within → Is
-nearestIs f (within.In k) = post (nearestColumn f k) (nearestPost f k)
+nearestIs f (within.In k) = post (nearestColumn (f .grid) k) (nearestPost (f .grid) k)
 nearestIs f within.Off = refused
 
 -- the one post of a column that begins where the bytes do

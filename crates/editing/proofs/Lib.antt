@@ -1,9 +1,8 @@
 -- The laws of the edit.
-pub mod SpotReached
-pub mod EditBy
 pub mod EditExactly
+pub mod SpotReached
 pub mod SixBytes
-pub mod OnePart
-pub mod OneEdit
-pub mod LookupAfter
+pub mod FrameEdits
+pub mod EditWords
 pub mod AfterEdits
+pub mod LookupAfter

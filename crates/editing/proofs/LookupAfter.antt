@@ -4,86 +4,61 @@ use native.Mathlib.Omega.{arith}
 use mathlib.Core.Path.{_≡_, sym, ap, _∙_}
 use mathlib.Core.Bool.{true}
 use mathlib.Core.List.{List}
-use lib.IntN.{ℤ, pos}
-use lib.ListN.{getD, set}
+use lib.IntN.{ℤ}
+use lib.ListN.{take, set}
 use lib.Seq.{getD-set-same, getD-set-other}
-use Rattle.octets.proofs.ChoiceLaws.{by-order}
-use Rattle.answers.specs.Told.{told, post}
-use Rattle.answers.specs.declared.Refusal.the-variants.{OffGrid}
-use Rattle.answers.specs.declared.Reading.the-variants.{Refused}
-use Rattle.layout.specs.declared.Grid.{Grid}
-use Rattle.posts.specs.Words.{postOf}
-use Rattle.posts.specs.Heights.{formOf, heightAllowed}
-use Rattle.posts.proofs.RoundTrip.{word-back, form-allowed}
-use Rattle.headers.specs.Judged.{factsIn, voidsAllowed}
-use Rattle.columns.specs.Column.{wordIn}
-use Rattle.reading.specs.Cell.{columnAt, Cell}
-use Rattle.reaching.specs.Lookup.{postReads, readingOf, lookedUp}
-use Rattle.reaching.specs.declared.reach.Reached.{Reached}
-use Rattle.reaching.specs.declared.reach.Reached.the-variants as reach
-use Rattle.reaching.proofs.LookupLaws.{post-found}
-use Rattle.reaching.proofs.ReachedExactly.{off, given}
-use Rattle.writing.specs.Grid.{heightAt, saidOf, gridIn}
-use Rattle.writing.proofs.Joined.{part-within}
-use Rattle.writing.proofs.OwnGrid.{length-grid, own-post}
-use Rattle.writing.proofs.PostSaid.{said-of-word}
+use borrow.Author.Tests.{lt-ltb}
+use Rattle.octets.specs.Numbers.{Bytes}
+use Rattle.octets.proofs.JoinedLaws.{part-within, places-apart}
+use Rattle.layout.specs.Grid.{headerBytes}
+use Rattle.layout.specs.declared.Frame.{Frame}
+use Rattle.posts.specs.Heights.{heightAllowed, saidBy, wordOf}
+use Rattle.posts.proofs.RoundTrip.{height-back, word-allowed}
+use Rattle.headers.specs.Judged.{frameIn}
+use Rattle.cells.specs.Cell.{Cell}
+use Rattle.cells.specs.Words.{cellOfWords, wordsOfCell}
+use Rattle.cells.proofs.FramedWords.{Made, set-made}
+use Rattle.cells.proofs.MadeCells.{cell-headed, cell-made, cell-remade}
+use Rattle.reaching.specs.Lookup.{saidOf, lookedUp}
+use Rattle.reaching.proofs.LookupLaws.{said-there, alike-said}
 use Rattle.editing.specs.Edit.{edited}
-use Rattle.editing.proofs.OnePart.{places-apart}
-use Rattle.editing.proofs.OneEdit.{edit-cell, edit-facts, edit-grid}
+use Rattle.editing.proofs.EditWords.{edit-words}
 
-module _ (s : List ℕ) (cell : Cell s) where
-  -- a post of a cell says what its own grid holds
-  pub said-there : (c p : ℕ) → c < factsIn s .grid .columns → p < factsIn s .grid .posts
-      → lookedUp s c p ≡ saidOf (heightAt (factsIn s .grid .posts) (gridIn s) c p)
-  said-there c p hc hp =
-      let voids = voidsAllowed (factsIn s) in
-      let w = wordIn (columnAt s (factsIn s .grid) c) p in
-      let may = cell .columns c hc .words p hp in
-      post-found s cell c p hc hp
-      ∙ ap (λ (x : ℕ). told post (postReads (postOf x))) (sym (word-back voids w may))
-      ∙ said-of-word voids (formOf (postOf w)) (form-allowed voids w may)
-      ∙ ap saidOf (sym (own-post s c p hc hp))
+module _ (s : List ℕ) (cell : Cell s) (bytes : Bytes s) (c p : ℕ) (hc : c < frameIn s .grid .columns)
+    (hp : p < frameIn s .grid .posts) (z : ℤ) (a : heightAllowed (frameIn s .voids) z ≡ true) where
+  abbrev f : Frame
+  f = frameIn s
 
-  -- and no other numbers name one
-  said-off : (c p : ℕ) → (c < factsIn s .grid .columns → p < factsIn s .grid .posts → ⊥) → lookedUp s c p ≡ told post (Refused OffGrid)
-  unfolding lookedUp
-  said-off c p away = ap (λ (x : Reached). told post (readingOf x)) (given s c p (reach.Refused OffGrid) (off (cell .headers) away))
+  abbrev h : List ℕ
+  h = take headerBytes s
 
-module _ (s : List ℕ) (cell : Cell s) (bytes : (i : ℕ) → getD s i 0 < 256) (c p : ℕ) (hc : c < factsIn s .grid .columns)
-    (hp : p < factsIn s .grid .posts) (z : ℤ) (a : heightAllowed (voidsAllowed (factsIn s)) z ≡ true) where
-  abbrev g : Grid
-  g = factsIn s .grid
+  -- the words, one of them set
+  abbrev new : List ℕ
+  new = set (wordsOfCell s) (c * f .grid .posts + p) (wordOf z)
 
-  same : factsIn (edited s c p z) ≡ factsIn s
-  same = edit-facts s cell c p hc hp z a bytes
+  made : Made f h new
+  made = set-made f h (wordsOfCell s) (cell-made s cell) (c * f .grid .posts + p) (wordOf z) (word-allowed (f .voids) z a)
 
-  after : Cell (edited s c p z)
-  after = edit-cell s cell c p hc hp z a bytes
-
-  -- what the edited cell says of a post, in the grid before the edit
-  said-after : (k i : ℕ) → k < g .columns → i < g .posts
-      → lookedUp (edited s c p z) k i ≡ saidOf (heightAt (g .posts) (set (gridIn s) (c * g .posts + p) z) k i)
-  said-after k i hk hi =
-      said-there (edited s c p z) after k i (rw same hk) (rw same hi)
-      ∙ (λ j. saidOf (heightAt (same j .grid .posts) (edit-grid s cell c p hc hp z a bytes j) k i))
+  changed : edited s c p z ≡ cellOfWords h (f .grid) new
+  changed =
+      ap (λ (l : List ℕ). edited l c p z) (sym (cell-remade s cell bytes))
+      ∙ edit-words f h (cell-headed s cell) (wordsOfCell s) (cell-made s cell) (record { column = c; post = p; height = z })
+      ∙ rw (lt-ltb c (f .grid .columns) hc, lt-ltb p (f .grid .posts) hp, a)
 
   pub edited-post : lookedUp (edited s c p z) c p ≡ saidOf z
   edited-post =
-      let w = part-within c (g .columns) (g .posts) hc in
-      said-after c p hc hp ∙ ap saidOf (getD-set-same (gridIn s) (c * g .posts + p) z (pos 0) (omega (arith, length-grid s)))
-
-  on-grid : (k i : ℕ) → (k ≡ c → i ≡ p → ⊥) → k < g .columns → i < g .posts → lookedUp (edited s c p z) k i ≡ lookedUp s k i
-  on-grid k i other hk hi =
-      said-after k i hk hi
-      ∙ ap saidOf (getD-set-other (gridIn s) (c * g .posts + p) (k * g .posts + i) z (pos 0) (places-apart c p k i (g .posts) hp hi other))
-      ∙ sym (said-there s cell k i hk hi)
-
-  off-grid : (k i : ℕ) → (k < g .columns → i < g .posts → ⊥) → lookedUp (edited s c p z) k i ≡ lookedUp s k i
-  off-grid k i away = said-off (edited s c p z) after k i (rw same away) ∙ sym (said-off s cell k i away)
+      let i = c * f .grid .posts + p in
+      let w = part-within c (f .grid .columns) (f .grid .posts) hc in
+      rw changed
+      (said-there f h new (cell-headed s cell) made c p hc hp
+      ∙ ap (λ (u : ℕ). saidOf (saidBy u)) (getD-set-same (wordsOfCell s) i (wordOf z) 0 (omega (arith, cell-made s cell .all)))
+      ∙ ap saidOf (height-back (f .voids) z a))
 
   -- any other column or post, on the grid or off it
   pub other-post : (k i : ℕ) → (k ≡ c → i ≡ p → ⊥) → lookedUp (edited s c p z) k i ≡ lookedUp s k i
   other-post k i other =
-      by-order (g .columns) k
-      (λ past. off-grid k i (λ on u. absurd (omega arith)))
-      (λ hk. by-order (g .posts) i (λ past. off-grid k i (λ on u. absurd (omega arith))) (λ hi. on-grid k i other hk hi))
+      ap (λ (l : List ℕ). lookedUp l k i) changed
+      ∙ alike-said f h new (wordsOfCell s) (cell-headed s cell) made (cell-made s cell) k i
+      (λ hk hi.
+      getD-set-other (wordsOfCell s) (c * f .grid .posts + p) (k * f .grid .posts + i) (wordOf z) 0 (places-apart c p k i (f .grid .posts) hp hi other))
+      ∙ ap (λ (l : List ℕ). lookedUp l k i) (cell-remade s cell bytes)

@@ -9,13 +9,13 @@ use Rattle.octets.specs.Pastes.{pasted}
 use Rattle.octets.proofs.ChoiceLaws.{by-order}
 use Rattle.octets.proofs.PasteLaws.{length-paste}
 use Rattle.octets.proofs.PartLaws.{paste-shown, byte-part}
-use Rattle.headers.specs.Judged.{factsIn}
+use Rattle.headers.specs.Judged.{frameIn}
 use Rattle.layout.specs.Levels.{columnBytes}
 use Rattle.posts.specs.Heights.{wordOf}
 use Rattle.columns.specs.Column.{wordAt, sumAt}
 use Rattle.storing.specs.Stored.{stored}
 use Rattle.storing.proofs.StoredBytes.{NoneOf, paste-leaves, length-stored, stored-leaves}
-use Rattle.reading.specs.Cell.{startOf}
+use Rattle.cells.specs.Cell.{startOf}
 use Rattle.reaching.specs.Reach.{spotIn}
 use Rattle.reaching.specs.declared.reach.Spot.{Spot}
 use Rattle.answers.specs.declared.Outcome.{Outcome}
@@ -65,16 +65,16 @@ module _ (s : List ℕ) (c p : ℕ) (z : ℤ) (spot : Spot) (at : SpotOf s c p s
 module _ (s : List ℕ) (c p : ℕ) (z : ℤ) where
   -- where the post's two bytes stand, and the checksum's four
   abbrev pub postAt : ℕ
-  postAt = startOf (factsIn s .grid) c + wordAt p
+  postAt = startOf (frameIn s .grid) c + wordAt p
 
   abbrev pub checksumAt : ℕ
-  checksumAt = startOf (factsIn s .grid) c + sumAt (factsIn s .grid .posts)
+  checksumAt = startOf (frameIn s .grid) c + sumAt (frameIn s .grid .posts)
 
   abbrev spot : Spot
-  spot = spotIn s (factsIn s) c p
+  spot = spotIn s (frameIn s) c p
 
   reached-spot : judgedEdit s c p z ≡ Done → SpotOf s c p spot
-  reached-spot e = let r = accepted-exactly s c p z .0 e .0 in spot-of s c p (r .on) (r .whole) (r .column)
+  reached-spot e = spot-of s c p (accepted-exactly s c p z .0 e .0)
 
   by-answer : (x : Outcome) → judgedEdit s c p z ≡ x
       → (length (edited s c p z) ≡ length s) × ((i : ℕ) → NoneOf postAt 2 i → NoneOf checksumAt 4 i → getD (edited s c p z) i 0 ≡ getD s i 0)

@@ -1,31 +1,31 @@
 -- What a reached post is: its column there whole and good; and that column as it is lent, and as it comes back.
 use Prim.Native.Nat.{ℕ, _+_, _*_, _-_, _≤_, _<_}
 use native.Mathlib.Omega.{arith}
-use mathlib.Core.Path.{_≡_, refl, ap, subst, _∙_}
+use mathlib.Core.Path.{_≡_, ap, subst, _∙_}
 use mathlib.Core.List.{List}
 use lib.IntN.{ℤ}
 use lib.ListN.{length, take, drop}
 use borrow.Rule.Slice.PartMut.{putMid}
-use Rattle.octets.specs.Numbers.{numberAt}
 use Rattle.octets.specs.Pastes.{pasted}
-use Rattle.octets.specs.Sums.{sumOf}
 use Rattle.octets.proofs.PasteLaws.{part-back}
 use Rattle.layout.specs.Levels.{columnBytes}
-use Rattle.headers.specs.Judged.{factsIn, voidsAllowed}
+use Rattle.headers.specs.Judged.{factsIn, frameIn}
 use Rattle.headers.proofs.Exactly.{follows-good}
 use Rattle.headers.proofs.FirstFour.{good-facts}
 use Rattle.posts.specs.Heights.{wordOf}
-use Rattle.columns.specs.Column.{sumAt, GoodColumn}
+use Rattle.columns.specs.Column.{GoodColumn}
+use Rattle.storing.specs.Asked.{Storable}
 use Rattle.storing.specs.Stored.{stored}
 use Rattle.storing.proofs.StoredBytes.{length-stored}
-use Rattle.reading.specs.Cell.{startOf, columnAt}
+use Rattle.cells.specs.Cell.{startOf}
+use Rattle.cells.proofs.ColumnPlaces.{start-small}
 use Rattle.reaching.specs.Reach.{spotIn, reached}
 use Rattle.reaching.specs.declared.reach.Spot.{Spot}
 use Rattle.reaching.specs.declared.reach.Reached.{Reached}
 use Rattle.reaching.specs.declared.reach.Reached.the-variants.{At}
-use Rattle.reaching.proofs.ReachedExactly.{OnGrid, endIn, Row, bad-headers, off, cut, column, good, row}
-use Rattle.reading.proofs.Turns.{start-small}
+use Rattle.reaching.proofs.ReachedExactly.{Row, bad-headers, off, cut, column, good, row}
 use Rattle.editing.specs.Edit.{storedIn}
+use Rattle.editing.proofs.EditExactly.{Reachable}
 
 -- the bytes of a spot's column
 abbrev pub partAt : List ℕ → Spot → List ℕ
@@ -33,8 +33,6 @@ partAt s spot = take (columnBytes (spot .posts)) (drop (spot .start) s)
 
 -- a spot that was reached: its post inside, its column there whole and good, and numbers that fit
 pub record SpotOf (s : List ℕ) (c p : ℕ) (spot : Spot) : Type 0 where
-  pub is : spot ≡ spotIn s (factsIn s) c p
-  pub on : OnGrid s c p
   pub inside : p < spot .posts
   pub few : spot .posts ≤ 3601
   pub small : spot .start ≤ 25981042
@@ -43,19 +41,17 @@ pub record SpotOf (s : List ℕ) (c p : ℕ) (spot : Spot) : Type 0 where
 
 module _ (s : List ℕ) (c p : ℕ) where
   -- the spot of a good column
-  pub spot-of : OnGrid s c p → endIn s c ≤ length s
-      → GoodColumn (columnAt s (factsIn s .grid) c) c (factsIn s .grid .posts) (voidsAllowed (factsIn s)) → SpotOf s c p (spotIn s (factsIn s) c p)
-  spot-of on whole g =
+  pub spot-of : Reachable s c p → SpotOf s c p (spotIn s (frameIn s) c p)
+  spot-of r =
+      let g = frameIn s .grid in
+      let on = r .on in
       let ranged = good-facts s (factsIn s) (follows-good s (on .headers)) .grid in
-      let size = ranged .column in
       record {
-        is = refl;
-        on = on;
         inside = on .post;
         few = ranged .posts-high;
-        small = omega (arith, start-small c (factsIn s .grid .bytes .column) (omega (arith, on .column, ranged .columns-high)) (omega (arith, size, ranged .posts-high)));
-        whole = omega (arith, size);
-        column = subst (λ (n : ℕ). GoodColumn (take n (drop (startOf (factsIn s .grid) c) s)) c (factsIn s .grid .posts) (voidsAllowed (factsIn s))) size g;
+        small = omega (arith, start-small c (g .bytes .column) (omega arith) (omega arith));
+        whole = omega (arith, r .whole);
+        column = subst (λ (n : ℕ). GoodColumn (take n (drop (startOf g c) s)) c (g .posts) (frameIn s .voids)) (ranged .column) (r .column);
       }
 
   by-row : (x : Reached) → Row s c p x → (spot : Spot) → x ≡ At spot → SpotOf s c p spot
@@ -63,7 +59,8 @@ module _ (s : List ℕ) (c p : ℕ) where
   by-row _ (off h away) spot e = let z : _≡_ {A = ℕ} 0 1 = cc in absurd (omega arith)
   by-row _ (cut o short) spot e = let z : _≡_ {A = ℕ} 0 1 = cc in absurd (omega arith)
   by-row _ (column o whole r j) spot e = let z : _≡_ {A = ℕ} 0 1 = cc in absurd (omega arith)
-  by-row _ (good o whole g) spot e = let same : spotIn s (factsIn s) c p ≡ spot = cc in subst (SpotOf s c p) same (spot-of o whole g)
+  by-row _ (good o whole g) spot e =
+      let same : spotIn s (frameIn s) c p ≡ spot = cc in subst (SpotOf s c p) same (spot-of (record { on = o; whole = whole; column = g }))
 
   pub spot-reached : (spot : Spot) → reached s c p ≡ At spot → SpotOf s c p spot
   spot-reached spot e = by-row (reached s c p) (row s c p) spot e
@@ -76,10 +73,9 @@ module _ (s : List ℕ) (c p : ℕ) (spot : Spot) (at : SpotOf s c p spot) where
   lent-is : lent ≡ partAt s spot
   lent-is = let n : spot .start + 12 + 2 * spot .posts - spot .start ≡ columnBytes (spot .posts) = omega arith in rw n
 
-  -- all that storing a post in it needs
-  pub can-store : (length lent ≡ 12 + 2 * spot .posts)
-      × ((p < spot .posts) × ((spot .posts ≤ 3601) × (numberAt lent (sumAt (spot .posts)) 4 ≡ sumOf (take (sumAt (spot .posts)) lent))))
-  can-store = rw lent-is (at .column .long, (at .inside, (at .few, at .column .checksum)))
+  -- all that storing a post in it asks
+  pub can-store : Storable lent (spot .posts) p
+  can-store = rw lent-is (record { long = at .column .long; inside = at .inside; few = at .few; checksum = at .column .right .checksum })
 
   -- and what the cell is once it came back
   pub stored-back : (z : ℤ) (back : List ℕ) → back ≡ stored lent (spot .posts) p (wordOf z)

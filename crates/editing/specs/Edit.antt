@@ -10,9 +10,10 @@ use Rattle.answers.specs.declared.Refusal.the-variants.{Height}
 use Rattle.answers.specs.declared.Outcome.{Outcome}
 use Rattle.answers.specs.declared.Outcome.the-variants.{Done, Refused}
 use Rattle.layout.specs.Levels.{columnBytes}
+use Rattle.layout.specs.declared.Frame.{Frame}
 use Rattle.posts.specs.Heights.{heightAllowed, wordOf}
 use Rattle.storing.specs.Stored.{stored}
-use Rattle.reaching.specs.Reach.{reached}
+use Rattle.reaching.specs.Reach.{reachedIn, reached}
 use Rattle.reaching.specs.declared.reach.Spot.{Spot}
 use Rattle.reaching.specs.declared.reach.Reached.{Reached}
 use Rattle.reaching.specs.declared.reach.Reached.the-variants as reach
@@ -33,6 +34,13 @@ storedIn s spot p z = pasted s (spot .start) (stored (take (columnBytes (spot .p
 abbrev pub editedAt : Reached → List ℕ → ℕ → ℤ → List ℕ
 editedAt (reach.At spot) s p z = pick (heightAllowed (spot .voids) z) (storedIn s spot p z) s
 editedAt (reach.Refused r) s p z = s
+
+-- the same of a post under a frame, with no word about headers
+abbrev pub judgedIn : List ℕ → Frame → ℕ → ℕ → ℤ → Outcome
+judgedIn s f c p z = judgedAt (reachedIn s f c p) z
+
+abbrev pub editedIn : List ℕ → Frame → ℕ → ℕ → ℤ → List ℕ
+editedIn s f c p z = editedAt (reachedIn s f c p) s p z
 
 -- what is told of the call, and the bytes at its end
 unfoldable pub editTold : List ℕ → ℕ → ℕ → ℤ → Told

@@ -12,10 +12,12 @@ use Rattle.octets.specs.Texts.{ascii, has}
 use Rattle.octets.proofs.DigitLaws.{decimal-below}
 use Rattle.octets.proofs.ChoiceLaws.{both-true, by-test, clash}
 use Rattle.layout.specs.Grid.{gridOf}
-use Rattle.layout.proofs.Ranges.{Ranged, ranged}
+use Rattle.layout.specs.Ranges.{Ranged}
+use Rattle.layout.proofs.Ranges.{ranged}
 use Rattle.angles.specs.Angles.{form, northward, eastward, isAngle, degreesIn, letterIn, isOrigin, angleOf, edgeOf}
 use Rattle.headers.specs.Due.{originAt, levelAt, dueIn}
 use Rattle.rules.specs.Rules.{holds, angleHolds}
+use Rattle.rules.specs.Asked.{DueInRange}
 use Rattle.fields.specs.Table.{fieldAt}
 use Rattle.headers.specs.Judged.{keeps, factsIn, judged, Follows}
 use Rattle.angles.specs.declared.Axis.{Axis}
@@ -91,9 +93,9 @@ unfolding dueIn
 grid-ranged s h = ranged (levelAt s) (edgeOf (originAt northward s 12)) (level-below s) (edge-below (originAt northward s 12) h)
 
 -- what is due is then within its ranges
-pub due-within : (s : List ℕ) → Fixed s → (dueIn s .latitude < 180) × ((dueIn s .longitude < 360) × (dueIn s .grid .level < 3))
+pub due-within : (s : List ℕ) → Fixed s → DueInRange (dueIn s)
 unfolding dueIn
-due-within s f = (f .latitude, (f .longitude, grid-ranged s (f .latitude) .level))
+due-within s f = record { origin = record { latitude = f .latitude; longitude = f .longitude }; level = grid-ranged s (f .latitude) .level }
 
 pub follows-fixed : (s : List ℕ) → Follows s → Fixed s
 follows-fixed s f = fixed s (dueIn s) (λ i h. f .1 i (omega arith))

@@ -10,6 +10,7 @@ use Rattle.octets.specs.Digits.{decimalAt}
 use Rattle.answers.specs.declared.Refusal.{Refusal}
 use Rattle.answers.specs.declared.Refusal.the-variants as because
 use Rattle.layout.specs.Grid.{headerBytes}
+use Rattle.layout.specs.declared.Frame.{Frame}
 use Rattle.fields.specs.Table.{fields, bytesIn, fieldAt}
 use Rattle.headers.specs.Due.{dueIn}
 use Rattle.rules.specs.Rules.{holds}
@@ -51,3 +52,10 @@ Follows s = (headerBytes ≤ length s) × ((i : ℕ) → i < length fields → k
 -- V1: a cell may hold voids exactly where its headers call it partial
 abbrev pub voidsAllowed : Facts → Bool
 voidsAllowed facts = not (eqb (facts .partial) 0)
+
+-- the frame that headers give: what columns, lookups, edits and writers know of them
+abbrev pub frameOf : Facts → Frame
+frameOf facts = record { grid = facts .grid; voids = voidsAllowed facts }
+
+abbrev pub frameIn : List ℕ → Frame
+frameIn s = frameOf (factsIn s)

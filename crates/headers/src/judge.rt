@@ -1,13 +1,12 @@
 // Judging headers: the first field in the order of the table that breaks its rule.
 ghost use mathlib.Core.Path.{_≡_};
-ghost use Prim.Native.Nat.{ℕ, _-_, _<_, _≤_};
-ghost use lib.ListN.{length};
+ghost use Prim.Native.Nat.{ℕ, _-_};
 ghost use Rattle.octets.specs.Choice.{pick};
 ghost use Rattle.octets.specs.Scan.{scan};
 ghost use Rattle.fields.specs.Table.{fieldAt};
-ghost use Rattle.angles.specs.Angles.{northward};
-ghost use Rattle.headers.specs.Due.{originAt, dueIn};
+ghost use Rattle.headers.specs.Due.{dueIn};
 ghost use Rattle.headers.specs.Judged as by;
+ghost use Rattle.headers.specs.Asked.{RowsToJudge, LatitudeInRange};
 use crate::Facts;
 use crate::Judged;
 use crate::readings::level_at;
@@ -19,6 +18,7 @@ use answers::Refusal;
 use fields::FIELDS;
 use fields::Field;
 use layout::Bytes;
+use layout::Frame;
 use layout::Grid;
 use layout::HEADER_BYTES;
 use layout::Interval;
@@ -48,7 +48,7 @@ const NOTHING: Due = Due {
 
 // The first row from `from` on and below `to` whose field breaks its rule; `to` where none does.
 fn first_broken(s: &[u8], due: Due, from: usize, to: usize) -> usize
-    requires { ⌜ ((from ≤ to) × ((to ≤ 40) × (3428 ≤ length (now s)))) × ((due .latitude < 180) × ((due .longitude < 360) × (due .grid .level < 3))) ⌝ }
+    requires { ⌜ RowsToJudge (now s) due from to ⌝ }
     ensures { λ r. ⌜ r ≡ scan (λ (i : ℕ) (rest : ℕ). pick (by.keeps (now (s .entry)) due (fieldAt i)) rest i) to from (to - from) ⌝ }
 {
     for row in from..to {
@@ -72,7 +72,7 @@ fn broken(s: &[u8], due: Due, field: Field) -> Refusal
 
 // What level, origin and security letter make due, once the first rows keep their rules.
 fn due_in(s: &[u8]) -> Due
-    requires { ⌜ (3428 ≤ length (now s)) × (originAt northward (now s) 12 < 180) ⌝ }
+    requires { ⌜ LatitudeInRange (now s) ⌝ }
     ensures { λ r. ⌜ r ≡ dueIn (now (s .entry)) ⌝ }
 {
     let latitude = origin(NORTHWARD, &s[12..20]);
@@ -112,9 +112,13 @@ pub fn judge(s: &[u8]) -> Judged
     })
 }
 
-// Whether the cell may hold voids.
-pub fn may_hold_voids(facts: Facts) -> bool
-    ensures { λ r. ⌜ r ≡ by.voidsAllowed facts ⌝ }
+// The frame of a cell with these headers: whether it may hold voids is decided here alone.
+pub fn frame_of(facts: Facts) -> Frame
+    ensures { λ r. ⌜ r ≡ by.frameOf facts ⌝ }
 {
-    facts.partial != 0
+    let grid = facts.grid;
+    Frame {
+        grid,
+        voids: facts.partial != 0,
+    }
 }

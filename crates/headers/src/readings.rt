@@ -5,13 +5,14 @@ ghost use lib.ListN.{length};
 ghost use Rattle.octets.specs.Texts.{ascii};
 ghost use Rattle.angles.specs.Angles.{form, degreesIn, letterIn, angleOf};
 ghost use Rattle.headers.specs.Due.{levelAt};
+ghost use Rattle.headers.specs.Asked.{OriginField};
 use angles::Axis;
 use octets::digits::decimal;
 use octets::texts::stands;
 
 // The angle of an origin in its field of the UHL.
 pub fn origin(axis: Axis, field: &[u8]) -> usize
-    requires { ⌜ (length (now field) ≡ 8) × (axis .most ≤ 180) ⌝ }
+    requires { ⌜ OriginField axis (now field) ⌝ }
     ensures { λ r. ⌜ r ≡ angleOf axis (degreesIn (form 3 (ascii "0000")) (now (field .entry))) (letterIn (form 3 (ascii "0000")) (now (field .entry))) ⌝ }
 {
     let most = axis.most;

@@ -2,59 +2,58 @@
 use Prim.Native.Nat.{ℕ, zero, suc, _*_}
 use native.Mathlib.Omega.{arith}
 use mathlib.Core.Path.{_≡_, refl, sym, ap, _∙_}
+use mathlib.Core.Bool.{true}
 use mathlib.Core.List.{List}
 use lib.IntN.{ℤ}
 use lib.ListN.{length}
 use Rattle.answers.specs.Told.{told, act}
 use Rattle.answers.specs.declared.Outcome.{Outcome}
-use Rattle.layout.specs.Levels.{postsOf}
+use Rattle.layout.specs.Levels.{postsOf, columnBytes}
 use Rattle.describing.specs.Items.{badItem}
-use Rattle.describing.specs.Facts.{factsFor}
 use Rattle.describing.specs.declared.Description.{Description}
 use Rattle.columns.specs.Column.{columnOf}
 use Rattle.streaming.specs.Given.{outputAfter}
-use Rattle.writing.specs.Cell.{postsDue, judgedCell, cellOf, cellTold, cellOutput}
+use Rattle.writing.specs.Cell.{postsDue, frameFor, judgedUnder, judgedCell, cellOf, cellTold, cellOutput}
 use Rattle.writing.proofs.ItemExactly.{found-bad}
-use Rattle.writing.proofs.CellExactly.{judgedThen}
-use Rattle.streaming.specs.Column.{columnTold, columnOutput}
-use Rattle.wording.specs.Words.{heightsIn, bytesFor}
+use Rattle.streaming.specs.Column.{afterNumber, judgedColumn, givenTold, givenOutput, columnTold, columnOutput}
+use Rattle.sources.specs.Given.{numbers, inBytes, heightsInBytes, bytesFor}
 use Rattle.numbering.specs.Items.{badNumber, descriptionOf, numbersOf}
-use Rattle.hosting.specs.Cell.{judgedUnder, judgedBytes, bytesTold, bytesOutput}
+use Rattle.hosting.specs.Cell.{judgedBytes, bytesTold, bytesOutput}
 use Rattle.hosting.specs.Column.{columnBytesTold, columnBytesOutput}
-use Rattle.wording.proofs.HeightBytes.{Words, heights-back, length-bytes-for}
+use Rattle.sources.proofs.GivenLaws.{Words, heights-back, length-bytes-for}
+use Rattle.streaming.proofs.GivenExactly.{as-numbers}
 use Rattle.numbering.proofs.ItemNumbers.{numbers-back}
 use Rattle.numbering.proofs.TestsAlike.{items-alike}
 use Rattle.hosting.proofs.BytesExactly as cell
-use Rattle.hosting.proofs.ColumnBytesExactly as column
 
 -- items in range, and bytes of the length due; for a column the length is enough
-pub cell-same : (items : List ℤ) (grid out : List ℕ) → badNumber items ≡ 0 → length grid ≡ 2 * postsDue (factsFor (descriptionOf items) .grid)
-    → (bytesTold items grid out ≡ cellTold (descriptionOf items) (heightsIn grid) out)
-    × (bytesOutput items grid out ≡ cellOutput (descriptionOf items) (heightsIn grid) out)
+pub cell-same : (items : List ℤ) (grid out : List ℕ) → badNumber items ≡ 0 → length grid ≡ 2 * postsDue (frameFor (descriptionOf items) .grid)
+    → (bytesTold items grid out ≡ cellTold (descriptionOf items) (heightsInBytes grid) out)
+    × (bytesOutput items grid out ≡ cellOutput (descriptionOf items) (heightsInBytes grid) out)
 unfolding bytesTold bytesOutput cellTold cellOutput
 cell-same items grid out e h =
     let same = cell.even-agrees items grid (length out) e h in
-    (ap (told act) same, ap (λ (x : Outcome). outputAfter x (cellOf (descriptionOf items) (heightsIn grid)) out) same)
+    (ap (told act) same, ap (λ (x : Outcome). outputAfter x (cellOf (descriptionOf items) (heightsInBytes grid)) out) same)
 
 pub column-same : (level number : ℕ) (posts out : List ℕ) → length posts ≡ 2 * postsOf level
-    → (columnBytesTold level number posts out ≡ columnTold level number (heightsIn posts) out)
-    × (columnBytesOutput level number posts out ≡ columnOutput level number (heightsIn posts) out)
-unfolding columnBytesTold columnBytesOutput columnTold columnOutput
+    → (columnBytesTold level number posts out ≡ columnTold level number (heightsInBytes posts) out)
+    × (columnBytesOutput level number posts out ≡ columnOutput level number (heightsInBytes posts) out)
+unfolding givenTold givenOutput columnTold columnOutput judgedColumn
 column-same level number posts out e =
-    let same = column.even-agrees level number posts (length out) e in
-    (ap (told act) same, ap (λ (x : Outcome). outputAfter x (columnOf number (heightsIn posts)) out) same)
+    let same = ap (afterNumber level number) (as-numbers (postsOf level) (columnBytes (postsOf level)) true (inBytes posts) (length out) e) in
+    (ap (told act) same, ap (λ (x : Outcome). outputAfter x (columnOf number (heightsInBytes posts)) out) same)
 
 -- a description with an item out of range: both name the same item, whatever else is given
 pub same-item : (d : Description) → (badItem d ≡ 0 → ⊥) → (zs : List ℤ) (grid out : List ℕ)
     → (bytesTold (numbersOf d) grid out ≡ cellTold d zs out) × (bytesOutput (numbersOf d) grid out ≡ cellOutput d zs out)
 unfolding bytesTold bytesOutput cellTold cellOutput judgedBytes judgedCell
 same-item d bad zs grid out =
-    let ours = found-bad (badItem d) (badNumber (numbersOf d)) (judgedUnder (descriptionOf (numbersOf d)) grid (length out)) (sym (items-alike d)) bad in
-    let theirs = found-bad (badItem d) (badItem d) (judgedThen d zs (length out)) refl bad in
+    let ours = found-bad (badItem d) (badNumber (numbersOf d)) (cell.judgedThen (numbersOf d) grid (length out)) (sym (items-alike d)) bad in
+    let theirs = found-bad (badItem d) (badItem d) (judgedUnder (frameFor d) (numbers zs) (length out)) refl bad in
     (ap (told act) (sym ours ∙ theirs), rw (sym ours, sym theirs))
 
 -- so a host can have any description written with any heights of 16 bits, and is answered as the writer over heights answers
-any-by : (d : Description) (zs : List ℤ) → length zs ≡ postsDue (factsFor d .grid) → Words zs → (out : List ℕ) (n : ℕ) → badItem d ≡ n
+any-by : (d : Description) (zs : List ℤ) → length zs ≡ postsDue (frameFor d .grid) → Words zs → (out : List ℕ) (n : ℕ) → badItem d ≡ n
     → (bytesTold (numbersOf d) (bytesFor zs) out ≡ cellTold d zs out) × (bytesOutput (numbersOf d) (bytesFor zs) out ≡ cellOutput d zs out)
 any-by d zs h w out zero e =
     let long = length-bytes-for zs in
@@ -62,6 +61,6 @@ any-by d zs h w out zero e =
     (cell-same (numbersOf d) (bytesFor zs) out (items-alike d ∙ e) (rw (numbers-back d) (omega arith)))
 any-by d zs h w out (suc n) e = same-item d (λ q. omega (arith, e, q)) zs (bytesFor zs) out
 
-pub any-cell : (d : Description) (zs : List ℤ) → length zs ≡ postsDue (factsFor d .grid) → Words zs → (out : List ℕ)
+pub any-cell : (d : Description) (zs : List ℤ) → length zs ≡ postsDue (frameFor d .grid) → Words zs → (out : List ℕ)
     → (bytesTold (numbersOf d) (bytesFor zs) out ≡ cellTold d zs out) × (bytesOutput (numbersOf d) (bytesFor zs) out ≡ cellOutput d zs out)
 any-cell d zs h w out = any-by d zs h w out (badItem d) refl

@@ -5,26 +5,18 @@ use lib.IntN.{ℤ}
 use lib.ListN.{length}
 use Rattle.answers.specs.Told.{Told, told, act}
 use Rattle.answers.specs.declared.Outcome.{Outcome}
-use Rattle.headers.specs.Judged.{voidsAllowed}
-use Rattle.describing.specs.Facts.{factsFor}
-use Rattle.describing.specs.declared.Description.{Description}
+use Rattle.sources.specs.Given.{inBytes, heightsInBytes}
 use Rattle.streaming.specs.Given.{outputAfter}
-use Rattle.writing.specs.Cell.{postsDue, afterItem, cellOf}
-use Rattle.wording.specs.Words.{heightsIn}
+use Rattle.writing.specs.Cell.{frameFor, afterItem, judgedUnder, cellOf}
 use Rattle.numbering.specs.Items.{badNumber, descriptionOf}
-use Rattle.wording.specs.Given.{judgedGiven}
-
--- N10, N11, N12: under a description
-unfoldable pub judgedUnder : Description → List ℕ → ℕ → Outcome
-judgedUnder d grid room = judgedGiven (postsDue (factsFor d .grid)) (factsFor d .grid .bytes .cell) (voidsAllowed (factsFor d)) grid room
 
 -- W1: the order of the call, for an output of so many bytes: 9 with the lowest item comes first
 unfoldable pub judgedBytes : List ℤ → List ℕ → ℕ → Outcome
-judgedBytes items grid room = afterItem (badNumber items) (judgedUnder (descriptionOf items) grid room)
+judgedBytes items grid room = afterItem (badNumber items) (judgedUnder (frameFor (descriptionOf items)) (inBytes grid) room)
 
 -- W4, N15: what is told of the call, and the output at its end
 unfoldable pub bytesTold : List ℤ → List ℕ → List ℕ → Told
 bytesTold items grid out = told act (judgedBytes items grid (length out))
 
 unfoldable pub bytesOutput : List ℤ → List ℕ → List ℕ → List ℕ
-bytesOutput items grid out = outputAfter (judgedBytes items grid (length out)) (cellOf (descriptionOf items) (heightsIn grid)) out
+bytesOutput items grid out = outputAfter (judgedBytes items grid (length out)) (cellOf (descriptionOf items) (heightsInBytes grid)) out

@@ -15,29 +15,12 @@ use Rattle.layout.specs.Levels.{latitudeInterval, postsOf}
 use Rattle.layout.specs.Zones.{factorAmong, factorOf}
 use Rattle.layout.specs.Grid.{longitudeInterval, columnsOf, cellBytes, gridOf, laid}
 use Rattle.octets.specs.Tests.{every, allBelow}
+use Rattle.layout.specs.Ranges.{Ranged}
 use Rattle.layout.specs.declared.Grid.{Grid}
 use Rattle.layout.specs.declared.Laid.the-variants.{Out, NoLevel, NoZone}
 use Rattle.octets.proofs.TestLaws.{each, below}
 
-pub record Ranged (g : Grid) : Type 0 where
-  pub level : g .level < 3
-  pub factor-low : 1 ≤ g .factor
-  pub factor-high : g .factor ≤ 6
-  pub latitude-low : 10 ≤ g .interval .latitude
-  pub latitude-high : g .interval .latitude ≤ 300
-  pub longitude-low : 10 ≤ g .interval .longitude
-  pub longitude-high : g .interval .longitude ≤ 1800
-  pub columns-low : 21 ≤ g .columns
-  pub columns-high : g .columns ≤ 3601
-  pub posts-low : 121 ≤ g .posts
-  pub posts-high : g .posts ≤ 3601
-  pub column : g .bytes .column ≡ 12 + 2 * g .posts
-  pub cell : g .bytes .cell ≡ 3428 + g .columns * g .bytes .column
-  pub cell-high : g .bytes .cell ≤ 25981042
-  pub latitude-spans : (g .posts - 1) * g .interval .latitude ≡ 36000
-  pub longitude-spans : (g .columns - 1) * g .interval .longitude ≡ 36000
-
--- the same, as tests, in the same order
+-- what a grid is within, as tests, in the order of `Ranged`
 abbrev tests : Grid → List Bool
 tests g =
     ltb (g .level) 3

@@ -2,4 +2,6 @@
 pub mod Levels
 pub mod Zones
 pub mod Grid
+pub mod Ranges
 pub mod Table
+pub mod Asked

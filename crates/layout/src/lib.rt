@@ -1,7 +1,7 @@
 // Levels and latitude zones: what grid of posts a cell has, and how long its columns and the cell are.
 ghost use mathlib.Core.Path.{_≡_};
-ghost use Prim.Native.Nat.{_<_};
 ghost use Rattle.layout.specs.Grid.{gridOf, laid};
+ghost use Rattle.layout.specs.Asked.{HasGrid};
 
 mod levels;
 pub mod zones;
@@ -33,6 +33,12 @@ pub struct Grid {
     pub bytes: Bytes,
 }
 
+// What the columns of a cell are held to: its grid, and whether it may hold voids.
+pub struct Frame {
+    pub grid: Grid,
+    pub voids: bool,
+}
+
 pub enum Laid {
     Out(Grid),
     NoLevel,
@@ -41,7 +47,7 @@ pub enum Laid {
 
 // The grid of a level and a near edge that there are.
 pub fn grid_of(level: usize, edge: usize) -> Grid
-    requires { ⌜ (level < 3) × (edge < 90) ⌝ }
+    requires { ⌜ HasGrid level edge ⌝ }
     ensures { λ r. ⌜ r ≡ gridOf level edge ⌝ }
 {
     let factor = zones::factor(edge);

@@ -7,15 +7,16 @@ use mathlib.Core.List.{List}
 use lib.IntN.{ℤ, subℕ}
 use Rattle.answers.specs.Told.{Told, numbered, refused}
 use Rattle.answers.specs.declared.Refusal.{Refusal}
-use Rattle.headers.specs.Judged.{judged, factsIn, Follows}
+use Rattle.headers.specs.Judged.{judged, factsIn, frameOf, Follows}
 use Rattle.headers.specs.declared.Facts.{Facts}
 use Rattle.headers.specs.declared.Judged.{Judged}
 use Rattle.headers.specs.declared.Judged.the-variants.{Good, Refused}
 use Rattle.headers.proofs.Exactly.{follows-good}
 use Rattle.headers.proofs.FirstFour.{good-facts}
-use Rattle.reaching.specs.Reach.{reachedIn, reachedUnder, reached}
+use Rattle.reaching.specs.Reach.{reached}
+use Rattle.reaching.proofs.ReachedExactly.{reached-good}
 use Rattle.layout.specs.Levels.{degree}
-use Rattle.locating.specs.Position.{alongAxis, inCell, cornerAt, southWest, nearest, nearestColumn, nearestPost, latitudeOf, longitudeOf, readAt, locatedBy, locatedUnder, located}
+use Rattle.locating.specs.Position.{alongAxis, inCell, cornerAt, southWest, nearest, nearestColumn, nearestPost, latitudeOf, longitudeOf, readAt, locatedBy, located}
 use Rattle.locating.specs.declared.position.Along.{Along}
 use Rattle.locating.specs.declared.position.Along.the-variants.{On, Off}
 use Rattle.locating.specs.declared.position.Corner.{Corner}
@@ -39,26 +40,21 @@ pub data Row (s : List ℕ) (latitude longitude : ℤ) : Told → Type 0 where
   -- 8
   off : (f : Facts) → judged s ≡ Good f → southWest f latitude longitude ≡ within.Off → Row s latitude longitude (refused 8 0)
   near : (f : Facts) → judged s ≡ Good f → (k : Corner) → southWest f latitude longitude ≡ within.In k
-      → Row s latitude longitude (readAt (nearestColumn f k) (nearestPost f k) (reached s (nearestColumn f k) (nearestPost f k)))
+      → Row s latitude longitude (readAt (nearestColumn (f .grid) k) (nearestPost (f .grid) k) (reached s (nearestColumn (f .grid) k) (nearestPost (f .grid) k)))
 
 module _ (s : List ℕ) (latitude longitude : ℤ) where
-  -- under good headers a post is reached as they say
-  reached-good : (f : Facts) → judged s ≡ Good f → (c p : ℕ) → reached s c p ≡ reachedIn s f c p
-  unfolding reached
-  reached-good f e c p = ap (λ (x : Judged). reachedUnder s x c p) e
-
-  located-good : (f : Facts) → judged s ≡ Good f → located s latitude longitude ≡ locatedBy s f (southWest f latitude longitude)
+  located-good : (f : Facts) → judged s ≡ Good f → located s latitude longitude ≡ locatedBy s (frameOf f) (southWest f latitude longitude)
   unfolding located
-  located-good f e = ap (λ (x : Judged). locatedUnder s x latitude longitude) e
+  located-good f e = rw e
 
   -- every row's answer is given
   pub given : (t : Told) → Row s latitude longitude t → located s latitude longitude ≡ t
   unfolding located
-  given _ (bad-headers r e) = ap (λ (x : Judged). locatedUnder s x latitude longitude) e
-  given _ (off f e q) = located-good f e ∙ ap (locatedBy s f) q
+  given _ (bad-headers r e) = rw e
+  given _ (off f e q) = located-good f e ∙ ap (locatedBy s (frameOf f)) q
   given _ (near f e k q) =
-      located-good f e ∙ ap (locatedBy s f) q
-      ∙ ap (readAt (nearestColumn f k) (nearestPost f k)) (sym (reached-good f e (nearestColumn f k) (nearestPost f k)))
+      located-good f e ∙ ap (locatedBy s (frameOf f)) q
+      ∙ ap (readAt (nearestColumn (f .grid) k) (nearestPost (f .grid) k)) (sym (reached-good s _ _ f e))
 
   abbrev Some : Type 0
   Some = (t : Told) × Row s latitude longitude t

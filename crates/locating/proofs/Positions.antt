@@ -10,6 +10,7 @@ use borrow.Author.Tests.{le-leb, lt-leb, lt-ltb, le-ltb, leb-true}
 use Rattle.octets.specs.Choice.{pick}
 use Rattle.headers.specs.declared.Facts.{Facts}
 use Rattle.layout.specs.Levels.{degree}
+use Rattle.locating.specs.Asked.{Passed}
 use Rattle.locating.specs.Position.{alongAxis, fromCorner, inCell, cornerAt, southWest}
 use Rattle.locating.specs.declared.position.Along.{Along}
 use Rattle.locating.specs.declared.position.Along.the-variants.{On, Off}
@@ -47,26 +48,19 @@ offset-high degrees Off o e = let clash : _≡_ {A = ℕ} 0 1 = cc in absurd (om
 
 -- what is found of a corner is small
 pub record Small (k : Corner) : Type 0 where
-  pub column : k .column ≤ 36000
-  pub post : k .post ≤ 36000
-  pub east : k .east ≤ 36000
-  pub north : k .north ≤ 36000
+  pub columns : Passed (k .column) (k .east)
+  pub posts : Passed (k .post) (k .north)
+
+passed : (o d : ℕ) → o ≤ 36000 → Passed (o / d) (o % d)
+passed o d h = record { steps = omega (arith, div-le-self o d); rest = omega (arith, mod-le o d) }
 
 corner-by : (f : Facts) (a b : Along) (k : Corner) → ((o : ℕ) → a ≡ On o → o ≤ 36000) → ((o : ℕ) → b ≡ On o → o ≤ 36000)
     → cornerAt f a b ≡ within.In k → Small k
 corner-by f (On n) (On e) k ha hb q =
-    let hn = ha n refl in
-    let he = hb e refl in
     let dy = f .grid .interval .latitude in
     let dx = f .grid .interval .longitude in
     let same : _≡_ {A = Corner} (record { column = e / dx; post = n / dy; east = e % dx; north = n % dy }) k = cc in
-    rw (← same)
-    (record {
-      column = omega (arith, div-le-self e dx);
-      post = omega (arith, div-le-self n dy);
-      east = omega (arith, mod-le e dx);
-      north = omega (arith, mod-le n dy);
-    })
+    rw (← same) (record { columns = passed e dx (hb e refl); posts = passed n dy (ha n refl) })
 corner-by f (On n) Off k ha hb q = let clash : _≡_ {A = ℕ} 0 1 = cc in absurd (omega arith)
 corner-by f Off b k ha hb q = let clash : _≡_ {A = ℕ} 0 1 = cc in absurd (omega arith)
 

@@ -1,2 +1,3 @@
--- What lookup of a position answers of any bytes.
+-- What lookup of a position answers of any bytes, and what its steps ask.
 pub mod Position
+pub mod Asked

@@ -8,7 +8,9 @@ use Rattle.answers.specs.Told.{Told, heightAt, voidAt, numbered, refused}
 use Rattle.answers.specs.declared.Reading.{Reading}
 use Rattle.answers.specs.declared.Reading.the-variants as reading
 use Rattle.layout.specs.Levels.{degree}
-use Rattle.headers.specs.Judged.{judged}
+use Rattle.layout.specs.declared.Grid.{Grid}
+use Rattle.layout.specs.declared.Frame.{Frame}
+use Rattle.headers.specs.Judged.{judged, frameOf}
 use Rattle.headers.specs.declared.Facts.{Facts}
 use Rattle.headers.specs.declared.Judged.{Judged}
 use Rattle.headers.specs.declared.Judged.the-variants as headers
@@ -58,11 +60,11 @@ southWest f latitude longitude =
 abbrev pub nearest : ℕ → ℕ → ℕ → ℕ
 nearest interval before past = pick (ltb interval (2 * past)) (before + 1) before
 
-abbrev pub nearestColumn : Facts → Corner → ℕ
-nearestColumn f k = nearest (f .grid .interval .longitude) (k .column) (k .east)
+abbrev pub nearestColumn : Grid → Corner → ℕ
+nearestColumn g k = nearest (g .interval .longitude) (k .column) (k .east)
 
-abbrev pub nearestPost : Facts → Corner → ℕ
-nearestPost f k = nearest (f .grid .interval .latitude) (k .post) (k .north)
+abbrev pub nearestPost : Grid → Corner → ℕ
+nearestPost g k = nearest (g .interval .latitude) (k .post) (k .north)
 
 -- where post p and column c of a cell lie on their axes
 abbrev pub latitudeOf : Facts → ℕ → ℤ
@@ -81,13 +83,14 @@ abbrev pub readAt : ℕ → ℕ → Reached → Told
 readAt c p x = saidAt c p (readingOf x)
 
 -- N8, then N3 to N6 for the column of the nearest post
-abbrev pub locatedBy : List ℕ → Facts → Within → Told
-locatedBy s f (within.In k) = readAt (nearestColumn f k) (nearestPost f k) (reachedIn s f (nearestColumn f k) (nearestPost f k))
+abbrev pub locatedBy : List ℕ → Frame → Within → Told
+locatedBy s f (within.In k) =
+    readAt (nearestColumn (f .grid) k) (nearestPost (f .grid) k) (reachedIn s f (nearestColumn (f .grid) k) (nearestPost (f .grid) k))
 locatedBy s f within.Off = refused 8 0
 
 -- N1, N2: the headers first
 abbrev pub locatedUnder : List ℕ → Judged → ℤ → ℤ → Told
-locatedUnder s (headers.Good f) latitude longitude = locatedBy s f (southWest f latitude longitude)
+locatedUnder s (headers.Good f) latitude longitude = locatedBy s (frameOf f) (southWest f latitude longitude)
 locatedUnder s (headers.Refused r) latitude longitude = numbered r
 
 unfoldable pub located : List ℕ → ℤ → ℤ → Told

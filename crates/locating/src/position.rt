@@ -1,12 +1,15 @@
 // Lookup of a position: the post at or to the south-west of it, what remains, and the nearest post from those.
 ghost use mathlib.Core.Path.{_≡_};
-ghost use Prim.Native.Nat.{_+_, _*_, _<_, _≤_};
+ghost use Prim.Native.Nat.{_≤_};
 ghost use Rattle.answers.specs.Told as told;
+ghost use Rattle.headers.specs.Judged.{frameOf};
+ghost use Rattle.locating.specs.Asked.{Cornered, Anchored, Passed};
 ghost use Rattle.locating.specs.Position as by;
 use answers::Located;
 use answers::Reading;
 use answers::Refusal;
 use headers::Facts;
+use headers::judge::frame_of;
 use layout::DEGREE;
 use reaching::lookup::read;
 use reaching::reach::reach_in;
@@ -59,7 +62,7 @@ fn on_axis(at: i64, half: usize) -> Along
 
 // Tenths from the cell's corner, which lies so many degrees from the end of the axis; round the circle, so that 180 E is 180 W.
 fn from_corner(at: i64, half: usize, degrees: usize) -> Along
-    requires { ⌜ (half ≤ 6480000) × (degrees < 360) ⌝ }
+    requires { ⌜ Cornered half degrees ⌝ }
     ensures { λ r. ⌜ r ≡ by.inCell degrees (by.alongAxis half at) ⌝ }
 {
     let found = on_axis(at, half);
@@ -78,7 +81,7 @@ fn from_corner(at: i64, half: usize, degrees: usize) -> Along
 
 // Where a position lies in a cell of these facts.
 fn south_west(facts: Facts, latitude: i64, longitude: i64) -> Within
-    requires { ⌜ ((0 < facts .grid .interval .latitude) × (0 < facts .grid .interval .longitude)) × ((facts .latitude < 180) × (facts .longitude < 360)) ⌝ }
+    requires { ⌜ Anchored facts ⌝ }
     ensures { λ r. ⌜ r ≡ by.southWest facts latitude longitude ⌝ }
 {
     let grid = facts.grid;
@@ -101,7 +104,7 @@ fn south_west(facts: Facts, latitude: i64, longitude: i64) -> Within
 
 // The nearest along one axis, from the one before and how far past it: a tie stays.
 fn nearest(interval: usize, before: usize, past: usize) -> usize
-    requires { ⌜ (before ≤ 36000) × (past ≤ 36000) ⌝ }
+    requires { ⌜ Passed before past ⌝ }
     ensures { λ r. ⌜ r ≡ by.nearest interval before past ⌝ }
 {
     if interval < 2 * past {
@@ -128,8 +131,8 @@ fn tell(column: usize, post: usize, reading: Reading) -> Located
 
 // A position under headers that were judged good.
 fn locate_in(cell: &[u8], facts: Facts, latitude: i64, longitude: i64) -> Located
-    requires { ⌜ ((0 < facts .grid .interval .latitude) × ((0 < facts .grid .interval .longitude) × ((facts .latitude < 180) × (facts .longitude < 360)))) × ((facts .grid .columns ≤ 3601) × ((facts .grid .posts ≤ 3601) × (facts .grid .bytes .column ≡ 12 + 2 * facts .grid .posts))) ⌝ }
-    ensures { λ r. ⌜ told.told told.position r ≡ by.locatedBy (now (cell .entry)) facts (by.southWest facts latitude longitude) ⌝ }
+    requires { ⌜ Anchored facts ⌝ }
+    ensures { λ r. ⌜ told.told told.position r ≡ by.locatedBy (now (cell .entry)) (frameOf facts) (by.southWest facts latitude longitude) ⌝ }
 {
     let grid = facts.grid;
     let interval = grid.interval;
@@ -138,7 +141,7 @@ fn locate_in(cell: &[u8], facts: Facts, latitude: i64, longitude: i64) -> Locate
         Within::In(corner) => {
             let column = nearest(interval.longitude, corner.column, corner.east);
             let post = nearest(interval.latitude, corner.post, corner.north);
-            let reached = reach_in(cell, facts, column, post);
+            let reached = reach_in(cell, frame_of(facts), column, post);
             tell(column, post, read(reached))
         }
         Within::Off => Located::Refused(Refusal::OffGrid),

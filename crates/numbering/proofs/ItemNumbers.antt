@@ -23,7 +23,7 @@ use Rattle.describing.proofs.NamedItem.{LowestBad, named-exactly}
 use Rattle.describing.proofs.RangedItems.{Lowest, first-exactly}
 use Rattle.numbering.specs.Items as items
 use Rattle.octets.specs.Ranges.{between}
-use Rattle.numbering.specs.Items.{item, given, isAccuracy, numberTest, numberTests, badNumber, counted, datumFor, descriptionOf, datumNumber, accuracyNumber, numberFor, numbersOf}
+use Rattle.numbering.specs.Items.{given, isAccuracy, numberTest, numberTests, badNumber, counted, datumFor, descriptionOf, datumNumber, accuracyNumber, numberFor, numbersOf}
 use Rattle.numbering.proofs.NumberRanges.{ranged, angled, letters, versions, passes-counted, difference-back}
 use Rattle.numbering.proofs.RangedNumbers.{ranged-numbers}
 use Rattle.numbering.proofs.TestsAlike.{test-alike}

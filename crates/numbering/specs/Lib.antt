@@ -1,2 +1,3 @@
 -- What the items of a description are as numbers.
 pub mod Items
+pub mod Asked

@@ -1,12 +1,12 @@
 // The items of a description, given as numbers: ranged, and made a description.
 ghost use mathlib.Core.Path.{_≡_};
-ghost use mathlib.Core.Bool.{true};
-ghost use Prim.Native.Nat.{_-_, _<_, _≤_};
-ghost use lib.IntN.{pos, negℤ, _+ℤ_};
+ghost use Prim.Native.Nat.{_<_};
+ghost use lib.IntN.{pos, _+ℤ_};
 ghost use lib.Signed.{leZ};
 ghost use Rattle.rules.specs.Rules.{isLetter, isVersion};
 ghost use Rattle.octets.specs.Ranges.{between};
 ghost use Rattle.numbering.specs.Items.{item, isAccuracy, numberTests, badNumber, counted, datumFor, accuracyFor, descriptionOf};
+ghost use Rattle.numbering.specs.Asked.{ItemThat, ItemOnAxis};
 use describing::Accuracies;
 use describing::Accuracy;
 use describing::Datum;
@@ -29,7 +29,7 @@ fn lies(items: &[i64; ITEMS], i: usize, low: i64, high: i64) -> bool
 
 // An item that is a byte, as a letter is.
 fn letter(items: &[i64; ITEMS], i: usize) -> u8
-    requires { ⌜ (i < 13) × (between (pos 0) (pos 255) (item (now items) i) ≡ true) ⌝ }
+    requires { ⌜ ItemThat (between (pos 0) (pos 255)) (now items) i ⌝ }
     ensures { λ r. ⌜ r ≡ counted (item (now (items .entry)) i) ⌝ }
 {
     items[i] as u8
@@ -87,7 +87,7 @@ pub fn bad_number(items: &[i64; ITEMS]) -> usize
 
 // An item that is not below 0, as a count.
 fn count(items: &[i64; ITEMS], i: usize) -> usize
-    requires { ⌜ (i < 13) × (leZ (pos 0) (item (now items) i) ≡ true) ⌝ }
+    requires { ⌜ ItemThat (leZ (pos 0)) (now items) i ⌝ }
     ensures { λ r. ⌜ r ≡ counted (item (now (items .entry)) i) ⌝ }
 {
     items[i] as usize
@@ -95,7 +95,7 @@ fn count(items: &[i64; ITEMS], i: usize) -> usize
 
 // An item in whole degrees, counted from the end of its axis.
 fn angle(items: &[i64; ITEMS], i: usize, side: usize) -> usize
-    requires { ⌜ (i < 13) × (((0 < side) × (side ≤ 180)) × (between (negℤ (pos side)) (pos (side - 1)) (item (now items) i) ≡ true)) ⌝ }
+    requires { ⌜ ItemOnAxis (now items) i side ⌝ }
     ensures { λ r. ⌜ r ≡ counted (item (now (items .entry)) i +ℤ pos side) ⌝ }
 {
     (items[i] + side as i64) as usize
@@ -112,7 +112,7 @@ fn datum(items: &[i64; ITEMS]) -> Datum
 }
 
 fn accuracy(items: &[i64; ITEMS], i: usize) -> Accuracy
-    requires { ⌜ (i < 13) × (isAccuracy (item (now items) i) ≡ true) ⌝ }
+    requires { ⌜ ItemThat isAccuracy (now items) i ⌝ }
     ensures { λ r. ⌜ r ≡ accuracyFor (item (now (items .entry)) i) ⌝ }
 {
     let z = items[i];

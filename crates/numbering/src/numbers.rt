@@ -5,6 +5,7 @@ ghost use Prim.Native.Nat.{_<_};
 ghost use lib.IntN.{pos, _-ℤ_};
 ghost use Rattle.describing.specs.Items.{inRange};
 ghost use Rattle.numbering.specs.Items.{datumNumber, accuracyNumber, numbersOf};
+ghost use Rattle.numbering.specs.Asked.{SmallDegrees};
 use crate::items::ITEMS;
 use describing::Accuracy;
 use describing::Datum;
@@ -19,7 +20,7 @@ fn counting(n: usize) -> i64
 }
 
 fn degrees(angle: usize, side: usize) -> i64
-    requires { ⌜ (angle < 1000) × (side < 1000) ⌝ }
+    requires { ⌜ SmallDegrees angle side ⌝ }
     ensures { λ r. ⌜ r ≡ pos angle -ℤ pos side ⌝ }
 {
     angle as i64 - side as i64

@@ -3,6 +3,7 @@ pub mod ChoiceLaws
 pub mod TestLaws
 pub mod ListLaws
 pub mod ScanLaws
+pub mod SearchLaws
 pub mod PasteLaws
 pub mod PlaceLaws
 pub mod NumberLaws
@@ -11,4 +12,6 @@ pub mod SumLaws
 pub mod DigitLaws
 pub mod TextLaws
 pub mod PartLaws
+pub mod JoinedLaws
+pub mod WordLaws
 pub mod Signed

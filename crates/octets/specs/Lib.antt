@@ -9,3 +9,5 @@ pub mod Sums
 pub mod Digits
 pub mod Texts
 pub mod Pastes
+pub mod Parts
+pub mod Asked

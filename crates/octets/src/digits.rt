@@ -4,6 +4,7 @@ ghost use Prim.Native.Nat.{_+_, _^_, _<_, _≤_};
 ghost use lib.ListN.{length};
 ghost use Rattle.octets.specs.Digits.{isDigit, digitOf, digitsAt, decimalAt, digitsOf};
 ghost use Rattle.octets.specs.Pastes.{pasted};
+ghost use Rattle.octets.specs.Asked.{FewDigits};
 
 fn is_digit(b: u8) -> bool
     ensures { λ r. ⌜ r ≡ isDigit b ⌝ }
@@ -35,7 +36,7 @@ pub fn are_digits(s: &[u8], at: usize, n: usize) -> bool
 
 // The number that n digits at `at` write.
 pub fn decimal(s: &[u8], at: usize, n: usize) -> usize
-    requires { ⌜ (at + n ≤ length (now s)) × (n ≤ 9) ⌝ }
+    requires { ⌜ FewDigits (now s) at n ⌝ }
     ensures { λ r. ⌜ (r ≡ decimalAt (now (s .entry)) at n) × (r < 10 ^ n) ⌝ }
 {
     let mut v = 0;

@@ -4,7 +4,7 @@ use mathlib.Core.Bool.{Bool}
 use lib.Dec.{eqb, ltb}
 use lib.IntN.{ℤ, pos, negsuc, negℤ}
 use Rattle.octets.specs.Choice.{pick}
-use Rattle.answers.specs.Told.{Told, refused, more, accepted, height, void, heightAt, voidAt, done}
+use Rattle.answers.specs.Told as told
 
 -- dted_number and dted_place
 abbrev pub numberIn : ℕ → ℕ
@@ -27,27 +27,31 @@ secondIn r = r / 65536 % 65536
 abbrev pub thirdIn : ℕ → ℕ
 thirdIn r = r % 65536
 
--- dted_height: 16 bits in two's complement; void is -32767
+-- 16 bits as a height, in two's complement; void is -32767
+abbrev pub heightOf : ℕ → ℤ
+heightOf word = pick (ltb word 32768) (pos word) (negℤ (pos (65536 - word)))
+
+abbrev pub isVoid : ℕ → Bool
+isVoid word = eqb word (65536 - 32767)
+
+-- dted_height
 abbrev pub heightIn : ℕ → ℤ
-heightIn r = pick (ltb (thirdIn r) 32768) (pos (thirdIn r)) (negℤ (pos (65536 - thirdIn r)))
+heightIn r = heightOf (thirdIn r)
 
-abbrev pub isVoidIn : ℕ → Bool
-isVoidIn r = eqb (thirdIn r) (65536 - 32767)
-
--- what an answer that is no refusal says, by what it holds
-abbrev pub valuesIn : ℕ → Told
-valuesIn r =
-    pick
-    (eqb (heldIn r) 1)
-    (accepted (firstIn r) (secondIn r) (thirdIn r))
-    (pick
-    (eqb (heldIn r) 2)
-    (pick (isVoidIn r) void (height (heightIn r)))
-    (pick (eqb (heldIn r) 3) (pick (isVoidIn r) (voidAt (firstIn r) (secondIn r)) (heightAt (firstIn r) (secondIn r) (heightIn r))) done))
+-- what an answer that is no refusal says, by what it holds and its three values
+abbrev pub saying : ℕ → ℕ → ℕ → ℕ → told.Told
+saying what a b c =
+    pick (eqb what 1)
+    (told.accepted a b c)
+    (pick (eqb what 2)
+    (pick (isVoid c) told.void (told.height (heightOf c)))
+    (pick (eqb what 3)
+    (pick (isVoid c) (told.voidAt a b) (told.heightAt a b (heightOf c)))
+    told.done))
 
 -- B4: what an answer says
-unfoldable pub toldIn : ℕ → Told
-toldIn r = pick (eqb (numberIn r) 0) (valuesIn r) (refused (numberIn r) (placeIn r))
+unfoldable pub toldIn : ℕ → told.Told
+toldIn r = pick (eqb (numberIn r) 0) (saying (heldIn r) (firstIn r) (secondIn r) (thirdIn r)) (told.refused (numberIn r) (placeIn r))
 
 -- a height of 16 bits that is not void's number. `negsuc n` is -(n + 1)
 abbrev pub FitsHeight : ℤ → Type 0
@@ -55,12 +59,11 @@ FitsHeight (pos n) = n < 32768
 FitsHeight (negsuc n) = n < 32766
 
 -- 8 bits for a number, 56 for a place, 16 for each value; no call of a C host answers "more"
-abbrev pub Fits : Told → Type 0
-Fits (refused number place) = (0 < number) × ((number < 256) × (place < 72057594037927936))
-Fits more = ⊥
-Fits (accepted level columns posts) = (level < 65536) × ((columns < 65536) × (posts < 65536))
-Fits (height z) = FitsHeight z
-Fits void = Unit
-Fits (heightAt column number z) = (column < 65536) × ((number < 65536) × FitsHeight z)
-Fits (voidAt column number) = (column < 65536) × (number < 65536)
-Fits done = Unit
+pub data Fits : told.Told → Type 0 where
+  refused : (number place : ℕ) → 0 < number → number < 256 → place < 72057594037927936 → Fits (told.refused number place)
+  accepted : (level columns posts : ℕ) → level < 65536 → columns < 65536 → posts < 65536 → Fits (told.accepted level columns posts)
+  height : (z : ℤ) → FitsHeight z → Fits (told.height z)
+  void : Fits told.void
+  heightAt : (column post : ℕ) (z : ℤ) → column < 65536 → post < 65536 → FitsHeight z → Fits (told.heightAt column post z)
+  voidAt : (column post : ℕ) → column < 65536 → post < 65536 → Fits (told.voidAt column post)
+  done : Fits told.done

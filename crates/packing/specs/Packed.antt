@@ -1,8 +1,10 @@
 -- An answer as one number of 64 bits (rule B4): a refusal's number in the top 8 bits and its place in the other 56; or 0, what the
 -- answer holds, and three values.
 use Prim.Native.Nat.{ℕ, _+_, _-_, _*_, _%_}
+use mathlib.Core.List.{List, [], _∷_}
 use lib.IntN.{ℤ, pos, negsuc, negℤ}
-use Rattle.answers.specs.Told.{Told, refused, more, accepted, height, void, heightAt, voidAt, done}
+use lib.ListN.{getD}
+use Rattle.answers.specs.Told.{Told, refused, said, valueAt, countAt}
 
 -- 16 bits of a number; of one below 0, in two's complement. `negsuc n` is -(n + 1)
 abbrev pub bits : ℤ → ℕ
@@ -23,21 +25,37 @@ aHeight = 2
 abbrev pub aPosition : ℕ
 aPosition = 3
 
+-- what is held, and three values beside it
+pub data Held : Type 0 where
+  holds : ℕ → ℕ → ℕ → ℕ → Held
+
+abbrev pub nothing : Held
+nothing = holds 0 0 0 0
+
 -- 8 bits that say what is held, and three values of 16 bits, the first one highest
 abbrev pub holding : ℕ → ℕ → ℕ → ℕ → ℕ
 holding what a b c = what % 256 * 281474976710656 + a % 65536 * 4294967296 + b % 65536 * 65536 + c % 65536
+
+abbrev pub packedHeld : Held → ℕ
+packedHeld (holds what a b c) = holding what a b c
 
 -- a refusal: its number and its place, each in its bits; that none is cut is shown of each call, in `demands`
 abbrev pub refusal : ℕ → ℕ → ℕ
 refusal number place = number % 256 * 72057594037927936 + place % 72057594037927936
 
+-- what an answer with these values holds, in the order of the tags: more, accepted, height, void, heightAt, voidAt, done
+abbrev pub heldBy : List ℤ → List Held
+heldBy values =
+    nothing
+    ∷ holds aGrid (countAt values 0) (countAt values 1) (countAt values 2)
+    ∷ holds aHeight 0 0 (bits (valueAt values 0))
+    ∷ holds aHeight 0 0 voidBits
+    ∷ holds aPosition (countAt values 0) (countAt values 1) (bits (valueAt values 2))
+    ∷ holds aPosition (countAt values 0) (countAt values 1) voidBits
+    ∷ nothing
+    ∷ []
+
 -- B4: level, columns and posts; a height, void being -32767; column, post and height; or nothing
 unfoldable pub packed : Told → ℕ
 packed (refused number place) = refusal number place
-packed more = 0
-packed (accepted level columns posts) = holding aGrid level columns posts
-packed (height z) = holding aHeight 0 0 (bits z)
-packed void = holding aHeight 0 0 voidBits
-packed (heightAt column post z) = holding aPosition column post (bits z)
-packed (voidAt column post) = holding aPosition column post voidBits
-packed done = 0
+packed (said tag values) = packedHeld (getD (heldBy values) tag nothing)

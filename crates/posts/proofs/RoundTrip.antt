@@ -14,6 +14,15 @@ unfolding wordOf
 word-fits (pos n) = omega arith
 word-fits (negsuc n) = omega arith
 
+-- so has a word that may be held anywhere
+fits-in-pair : {voids : Bool} {w : ℕ} {z : ℤ} → Pair voids w z → w < 65536
+fits-in-pair (void v) = omega arith
+fits-in-pair (up n h) = omega arith
+fits-in-pair (down w n e h) = omega arith
+
+pub allowed-fits : (voids : Bool) (w : ℕ) → wordAllowed voids w ≡ true → w < 65536
+allowed-fits voids w a = fits-in-pair (pair-of-word voids w a)
+
 -- an allowed word, read and written again, is the same word
 pub word-back : (voids : Bool) (w : ℕ) → wordAllowed voids w ≡ true → wordOf (formOf (postOf w)) ≡ w
 word-back voids w a = word-of-pair (pair-of-word voids w a)

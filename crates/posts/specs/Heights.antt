@@ -4,7 +4,7 @@ use mathlib.Core.Bool.{Bool}
 use lib.IntN.{ℤ, pos, negsuc, negℤ}
 use Rattle.octets.specs.Choice.{pick}
 use Rattle.octets.specs.Ranges.{between}
-use Rattle.posts.specs.Words.{inRange}
+use Rattle.posts.specs.Words.{postOf, inRange}
 use Rattle.posts.specs.declared.Post.{Post}
 use Rattle.posts.specs.declared.Post.the-variants.{Height, Void}
 
@@ -12,6 +12,10 @@ use Rattle.posts.specs.declared.Post.the-variants.{Height, Void}
 abbrev pub formOf : Post → ℤ
 formOf (Height z) = z
 formOf Void = negℤ (pos 32767)
+
+-- what a word says, in the writer's form
+abbrev pub saidBy : ℕ → ℤ
+saidBy w = formOf (postOf w)
 
 -- the writer's form of void, and no other
 abbrev pub isVoid : ℤ → Bool

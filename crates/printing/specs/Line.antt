@@ -1,13 +1,13 @@
 -- The line that tells a final answer of intake (rule S7), as its bytes.
 use Prim.Native.Nat.{ℕ, zero, suc, _/_}
 use mathlib.Core.List.{List, [], _∷_, _++_}
-use lib.Dec.{ltb}
+use lib.Dec.{eqb, ltb}
 use lib.ListN.{replicate}
 use Rattle.octets.specs.Choice.{pick}
 use Rattle.octets.specs.Digits.{digitsOf}
 use Rattle.octets.specs.Pastes.{pasted}
 use Rattle.octets.specs.Texts.{ascii}
-use Rattle.answers.specs.Told.{Told, refused, more, accepted, height, void, heightAt, voidAt, done}
+use Rattle.answers.specs.Told.{Told, refused, said, acceptedTag, countAt}
 
 -- how many decimal digits a number has, in n turns at most: one, and those of a tenth of it where it is ten or more
 unfoldable pub widthIn : ℕ → ℕ → ℕ
@@ -42,14 +42,8 @@ refusedLine number place = ascii "refused " ++ (item number blank ++ item place 
 
 -- nothing where more is due, and for the answers of other calls
 abbrev pub lineOf : Told → List ℕ
-lineOf (accepted level columns posts) = acceptedLine level columns posts
 lineOf (refused number place) = refusedLine number place
-lineOf more = []
-lineOf (height z) = []
-lineOf void = []
-lineOf (heightAt column number z) = []
-lineOf (voidAt column number) = []
-lineOf done = []
+lineOf (said tag values) = pick (eqb tag acceptedTag) (acceptedLine (countAt values 0) (countAt values 1) (countAt values 2)) []
 
 -- a line at the front of an array, with room for any; the rest are zeros
 abbrev pub inArray : List ℕ → List ℕ

@@ -1,4 +1,5 @@
 -- The laws of a reached post and of lookup.
 pub mod PostReached
 pub mod ReachedExactly
+pub mod PostSaid
 pub mod LookupLaws

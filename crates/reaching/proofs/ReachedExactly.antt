@@ -1,93 +1,82 @@
 -- L1, N14: a post is reached, or refused, exactly by the first row of the call's order that holds.
-use Prim.Native.Nat.{ℕ, _+_, _*_, _≤_, _<_}
+use Prim.Native.Nat.{ℕ, _+_, _≤_, _<_}
 use native.Mathlib.Omega.{arith}
-use mathlib.Core.Path.{_≡_, refl, sym, ap, subst, _∙_}
+use mathlib.Core.Path.{_≡_, refl, sym, subst, _∙_}
 use mathlib.Core.List.{List}
-use lib.ListN.{length, drop, length-drop}
-use lib.Seq.{length-take-le}
+use lib.ListN.{length}
 use Rattle.octets.proofs.ChoiceLaws.{by-order}
 use Rattle.answers.specs.declared.Refusal.{Refusal}
 use Rattle.answers.specs.declared.Refusal.the-variants.{Cut, OffGrid}
-use Rattle.headers.specs.Judged.{judged, factsIn, voidsAllowed, Follows}
+use Rattle.headers.specs.Judged.{judged, factsIn, frameOf, frameIn, Follows}
+use Rattle.headers.specs.declared.Facts.{Facts}
 use Rattle.headers.specs.declared.Judged.{Judged}
 use Rattle.headers.specs.declared.Judged.the-variants as headers
 use Rattle.headers.proofs.Exactly.{good-follows, follows-good}
 use Rattle.headers.proofs.FirstFour.{good-facts}
-use Rattle.columns.specs.Column.{GoodColumn}
+use Rattle.columns.specs.Column.{wordIn, GoodColumn}
 use Rattle.columns.specs.Judged.{judgedColumn}
 use Rattle.columns.specs.declared.Judged as Columns
 use Rattle.columns.specs.declared.Judged.the-variants as columns
-use Rattle.columns.proofs.Exactly.{good-only, good-if}
-use Rattle.reading.specs.Cell.{startOf, columnAt}
-use Rattle.reaching.specs.Reach.{spotIn, reachedBy, reachedIn, reachedUnder, reached}
+use Rattle.columns.proofs.Exactly.{good-only}
+use Rattle.cells.specs.Cell.{startOf, columnAt}
+use Rattle.cells.proofs.ColumnPlaces.{column-long}
+use Rattle.reaching.specs.Reach.{spotIn, reachedBy, reachedIn, reached}
 use Rattle.reaching.specs.declared.reach.Reached.{Reached}
 use Rattle.reaching.specs.declared.reach.Reached.the-variants.{At, Refused}
-use Rattle.reaching.proofs.PostReached.{off-columns, off-posts, column-cut, column-judged}
+use Rattle.reaching.proofs.PostReached.{off-grid, column-cut, column-judged, post-at}
 
 -- good headers, and a post on their grid
 pub record OnGrid (s : List ℕ) (c p : ℕ) : Type 0 where
   pub headers : Follows s
-  pub column : c < factsIn s .grid .columns
-  pub post : p < factsIn s .grid .posts
+  pub column : c < frameIn s .grid .columns
+  pub post : p < frameIn s .grid .posts
 
 -- where column c ends, and how it is judged, under the headers of the bytes
 abbrev pub endIn : List ℕ → ℕ → ℕ
-endIn s c = startOf (factsIn s .grid) c + factsIn s .grid .bytes .column
+endIn s c = startOf (frameIn s .grid) c + frameIn s .grid .bytes .column
 
 abbrev pub judgedIn : List ℕ → ℕ → Columns.Judged
-judgedIn s c = judgedColumn (columnAt s (factsIn s .grid) c) c (factsIn s .grid .posts) (voidsAllowed (factsIn s)) (startOf (factsIn s .grid) c)
+judgedIn s c = judgedColumn (columnAt s (frameIn s .grid) c) c (frameIn s .grid .posts) (frameIn s .voids) (startOf (frameIn s .grid) c)
 
 -- the rows in the call's order, each where it holds and none before it does
 pub data Row (s : List ℕ) (c p : ℕ) : Reached → Type 0 where
   -- 1 and 2
   bad-headers : (r : Refusal) → judged s ≡ headers.Refused r → Row s c p (Refused r)
   -- 8
-  off : Follows s → (c < factsIn s .grid .columns → p < factsIn s .grid .posts → ⊥) → Row s c p (Refused OffGrid)
+  off : Follows s → (c < frameIn s .grid .columns → p < frameIn s .grid .posts → ⊥) → Row s c p (Refused OffGrid)
   -- 3
-  cut : OnGrid s c p → length s < endIn s c → Row s c p (Refused (Cut (startOf (factsIn s .grid) c)))
+  cut : OnGrid s c p → length s < endIn s c → Row s c p (Refused (Cut (startOf (frameIn s .grid) c)))
   -- 4, 5 and 6
   column : OnGrid s c p → endIn s c ≤ length s → (r : Refusal) → judgedIn s c ≡ columns.Refused r → Row s c p (Refused r)
-  good : OnGrid s c p → endIn s c ≤ length s
-      → GoodColumn (columnAt s (factsIn s .grid) c) c (factsIn s .grid .posts) (voidsAllowed (factsIn s))
-      → Row s c p (At (spotIn s (factsIn s) c p))
+  good : OnGrid s c p → endIn s c ≤ length s → GoodColumn (columnAt s (frameIn s .grid) c) c (frameIn s .grid .posts) (frameIn s .voids)
+      → Row s c p (At (spotIn s (frameIn s) c p))
 
 module _ (s : List ℕ) (c p : ℕ) where
-  -- under good headers
-  reached-under : Follows s → reached s c p ≡ reachedIn s (factsIn s) c p
+  -- good headers give the frame that a post is reached under
+  pub reached-good : (f : Facts) → judged s ≡ headers.Good f → reached s c p ≡ reachedIn s (frameOf f) c p
   unfolding reached
-  reached-under h = ap (λ (x : Judged). reachedUnder s x c p) (follows-good s h)
+  reached-good f e = rw e
 
-  -- a column that is there whole has its length
-  pub column-long : Follows s → endIn s c ≤ length s → length (columnAt s (factsIn s .grid) c) ≡ 12 + 2 * factsIn s .grid .posts
-  column-long h whole =
-      let g = factsIn s .grid in
-      length-take-le (g .bytes .column) (drop (startOf g c) s) (rw length-drop (omega arith))
-      ∙ good-facts s (factsIn s) (follows-good s h) .grid .column
-
-  -- on the grid, and there whole
-  as-judged : OnGrid s c p → endIn s c ≤ length s → (x : Columns.Judged) → x ≡ judgedIn s c → reached s c p ≡ reachedBy x (spotIn s (factsIn s) c p)
-  as-judged o whole x e =
-      reached-under (o .headers)
-      ∙ sym (column-judged s (factsIn s) c p (o .column) (o .post) whole (columnAt s (factsIn s .grid) c) refl (voidsAllowed (factsIn s)) refl x e _ refl)
+  pub reached-under : Follows s → reached s c p ≡ reachedIn s (frameIn s) c p
+  reached-under h = reached-good (factsIn s) (follows-good s h)
 
   -- every row's answer is given
   pub given : (x : Reached) → Row s c p x → reached s c p ≡ x
   unfolding reached
-  given _ (bad-headers r e) = ap (λ (x : Judged). reachedUnder s x c p) e
-  given _ (off h away) =
-      reached-under h
-      ∙ by-order (factsIn s .grid .columns) c
-      (λ past. sym (off-columns s (factsIn s) c p past))
-      (λ on. by-order (factsIn s .grid .posts) p (λ past. sym (off-posts s (factsIn s) c p on past)) (λ u. absurd (away on u)))
-  given _ (cut o short) = reached-under (o .headers) ∙ sym (column-cut s (factsIn s) c p (o .column) (o .post) short)
-  given _ (column o whole r e) = as-judged o whole (columns.Refused r) (sym e)
-  given _ (good o whole g) =
-      as-judged o whole columns.Good (sym (good-if (columnAt s (factsIn s .grid) c) c (factsIn s .grid .posts) (voidsAllowed (factsIn s)) (startOf (factsIn s .grid) c) g))
+  given _ (bad-headers r e) = rw e
+  given _ (off h away) = reached-under h ∙ off-grid s (frameIn s) c p away
+  given _ (cut o short) = reached-under (o .headers) ∙ sym (column-cut s (frameIn s) c p (o .column) (o .post) short)
+  given _ (column o whole r e) =
+      let part = columnAt s (frameIn s .grid) c in
+      reached-under (o .headers)
+      ∙ sym (column-judged s (frameIn s) c p (o .column) (o .post) whole part refl (columns.Refused r) (sym e) (wordIn part p) refl)
+  given _ (good o whole g) = reached-under (o .headers) ∙ post-at s (frameIn s) c p (o .column) (o .post) whole g
 
-  by-column : OnGrid s c p → endIn s c ≤ length s → (x : Columns.Judged) → judgedIn s c ≡ x → Row s c p (reachedBy x (spotIn s (factsIn s) c p))
+  by-column : OnGrid s c p → endIn s c ≤ length s → (x : Columns.Judged) → judgedIn s c ≡ x → Row s c p (reachedBy x (spotIn s (frameIn s) c p))
   by-column o whole columns.Good e =
-      good o whole
-      (good-only (columnAt s (factsIn s .grid) c) c (factsIn s .grid .posts) (voidsAllowed (factsIn s)) (startOf (factsIn s .grid) c) (column-long (o .headers) whole) e)
+      let g = frameIn s .grid in
+      let long = column-long s g c (good-facts s (factsIn s) (follows-good s (o .headers)) .grid) whole in
+      good o whole (good-only (columnAt s g c) c (g .posts) (frameIn s .voids) (startOf g c) long e)
   by-column o whole (columns.Refused r) e = column o whole r e
 
   -- a row whose answer is y
@@ -98,16 +87,16 @@ module _ (s : List ℕ) (c p : ℕ) where
   by-headers (headers.Refused r) e = (Refused r, bad-headers r e)
   by-headers (headers.Good f) e =
       let h = good-follows s f e .0 in
-      by-order (factsIn s .grid .columns) c
+      by-order (frameIn s .grid .columns) c
       (λ past. (Refused OffGrid, off h (λ on u. absurd (omega arith))))
       (λ on.
-      by-order (factsIn s .grid .posts) p
+      by-order (frameIn s .grid .posts) p
       (λ past. (Refused OffGrid, off h (λ _ u. absurd (omega arith))))
       (λ u.
       let o : OnGrid s c p = record { headers = h; column = on; post = u } in
       by-order (endIn s c) (length s)
-      (λ whole. (reachedBy (judgedIn s c) (spotIn s (factsIn s) c p), by-column o whole (judgedIn s c) refl))
-      (λ short. (Refused (Cut (startOf (factsIn s .grid) c)), cut o short))))
+      (λ whole. (reachedBy (judgedIn s c) (spotIn s (frameIn s) c p), by-column o whole (judgedIn s c) refl))
+      (λ short. (Refused (Cut (startOf (frameIn s .grid) c)), cut o short))))
 
   -- and every answer is a row's
   pub row : Row s c p (reached s c p)

@@ -1,10 +1,13 @@
 -- Lookup of one post (rule L1): its height or void, or why it was not reached.
 use Prim.Native.Nat.{ℕ}
 use mathlib.Core.List.{List}
-use Rattle.answers.specs.Told.{Told, told, post}
+use lib.IntN.{ℤ}
+use Rattle.octets.specs.Choice.{pick}
+use Rattle.answers.specs.Told.{Told, told, post, height, void}
 use Rattle.answers.specs.declared.Reading.{Reading}
 use Rattle.answers.specs.declared.Reading.the-variants as reading
 use Rattle.posts.specs.Words.{postOf}
+use Rattle.posts.specs.Heights.{isVoid}
 use Rattle.posts.specs.declared.Post.{Post}
 use Rattle.posts.specs.declared.Post.the-variants.{Height, Void}
 use Rattle.reaching.specs.Reach.{reached}
@@ -20,6 +23,10 @@ postReads Void = reading.Void
 abbrev pub readingOf : Reached → Reading
 readingOf (At spot) = postReads (postOf (spot .word))
 readingOf (Refused r) = reading.Refused r
+
+-- a height in the writer's form, as a lookup says it
+abbrev pub saidOf : ℤ → Told
+saidOf z = pick (isVoid z) void (height z)
 
 unfoldable pub lookedUp : List ℕ → ℕ → ℕ → Told
 lookedUp s c p = told post (readingOf (reached s c p))

@@ -5,25 +5,25 @@ use lib.ListN.{length}
 use lib.Dec.{leb, ltb}
 use Rattle.octets.specs.Choice.{pick, both}
 use Rattle.answers.specs.declared.Refusal.the-variants.{Cut, OffGrid}
-use Rattle.headers.specs.Judged.{judged, voidsAllowed}
-use Rattle.headers.specs.declared.Facts.{Facts}
+use Rattle.layout.specs.declared.Frame.{Frame}
+use Rattle.headers.specs.Judged.{judged, frameOf}
 use Rattle.headers.specs.declared.Judged.{Judged}
 use Rattle.headers.specs.declared.Judged.the-variants as headers
 use Rattle.columns.specs.Column.{wordIn}
 use Rattle.columns.specs.Judged.{judgedColumn}
 use Rattle.columns.specs.declared.Judged as Columns
 use Rattle.columns.specs.declared.Judged.the-variants as columns
-use Rattle.reading.specs.Cell.{startOf, columnAt}
+use Rattle.cells.specs.Cell.{startOf, columnAt}
 use Rattle.reaching.specs.declared.reach.Spot.{Spot}
 use Rattle.reaching.specs.declared.reach.Reached.{Reached}
 use Rattle.reaching.specs.declared.reach.Reached.the-variants.{At, Refused}
 
 -- post p of column c, as it stands in the file
-abbrev pub spotIn : List ℕ → Facts → ℕ → ℕ → Spot
+abbrev pub spotIn : List ℕ → Frame → ℕ → ℕ → Spot
 spotIn s f c p = record {
   start = startOf (f .grid) c;
   posts = f .grid .posts;
-  voids = voidsAllowed f;
+  voids = f .voids;
   word = wordIn (columnAt s (f .grid) c) p;
 }
 
@@ -33,17 +33,17 @@ reachedBy columns.Good spot = At spot
 reachedBy (columns.Refused r) spot = Refused r
 
 -- N8, then N3
-unfoldable pub reachedIn : List ℕ → Facts → ℕ → ℕ → Reached
+unfoldable pub reachedIn : List ℕ → Frame → ℕ → ℕ → Reached
 reachedIn s f c p =
     pick (both (ltb c (f .grid .columns)) (ltb p (f .grid .posts)))
     (pick (leb (startOf (f .grid) c + f .grid .bytes .column) (length s))
-    (reachedBy (judgedColumn (columnAt s (f .grid) c) c (f .grid .posts) (voidsAllowed f) (startOf (f .grid) c)) (spotIn s f c p))
+    (reachedBy (judgedColumn (columnAt s (f .grid) c) c (f .grid .posts) (f .voids) (startOf (f .grid) c)) (spotIn s f c p))
     (Refused (Cut (startOf (f .grid) c))))
     (Refused OffGrid)
 
 -- N1, N2: the headers first
 abbrev pub reachedUnder : List ℕ → Judged → ℕ → ℕ → Reached
-reachedUnder s (headers.Good f) c p = reachedIn s f c p
+reachedUnder s (headers.Good f) c p = reachedIn s (frameOf f) c p
 reachedUnder s (headers.Refused r) c p = Refused r
 
 unfoldable pub reached : List ℕ → ℕ → ℕ → Reached

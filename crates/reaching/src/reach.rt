@@ -1,11 +1,11 @@
 // Reaching one post of a cell: the headers are judged, then the post's column, and nothing else is read.
 ghost use mathlib.Core.Path.{_≡_};
-ghost use Prim.Native.Nat.{_+_, _*_, _≤_};
+ghost use Rattle.layout.specs.Ranges.{Ranged};
 ghost use Rattle.reaching.specs.Reach as by;
 use answers::Refusal;
 use columns::Judged;
-use headers::Facts;
-use headers::judge::may_hold_voids;
+use headers::judge::frame_of;
+use layout::Frame;
 use layout::HEADER_BYTES;
 use octets::numbers::be16;
 
@@ -22,12 +22,12 @@ pub enum Reached {
     Refused(Refusal),
 }
 
-// A post under headers that were judged good.
-pub fn reach_in(cell: &[u8], facts: Facts, column: usize, post: usize) -> Reached
-    requires { ⌜ (facts .grid .columns ≤ 3601) × ((facts .grid .posts ≤ 3601) × (facts .grid .bytes .column ≡ 12 + 2 * facts .grid .posts)) ⌝ }
-    ensures { λ r. ⌜ r ≡ by.reachedIn (now (cell .entry)) facts column post ⌝ }
+// A post under a frame.
+pub fn reach_in(cell: &[u8], frame: Frame, column: usize, post: usize) -> Reached
+    requires { ⌜ Ranged (frame .grid) ⌝ }
+    ensures { λ r. ⌜ r ≡ by.reachedIn (now (cell .entry)) frame column post ⌝ }
 {
-    let grid = facts.grid;
+    let grid = frame.grid;
     let posts = grid.posts;
     if grid.columns <= column {
         return Reached::Refused(Refusal::OffGrid);
@@ -42,7 +42,7 @@ pub fn reach_in(cell: &[u8], facts: Facts, column: usize, post: usize) -> Reache
     if cell.len() < end {
         return Reached::Refused(Refusal::Cut(start));
     }
-    let voids = may_hold_voids(facts);
+    let voids = frame.voids;
     let part = &cell[start..end];
     let judged = columns::judge(part, column, posts, voids, start);
     match judged {
@@ -62,7 +62,7 @@ pub fn reach(cell: &[u8], column: usize, post: usize) -> Reached
 {
     let judged = headers::judge::judge(cell);
     match judged {
-        headers::Judged::Good(facts) => reach_in(cell, facts, column, post),
+        headers::Judged::Good(facts) => reach_in(cell, frame_of(facts), column, post),
         headers::Judged::Refused(refusal) => Reached::Refused(refusal),
     }
 }

@@ -1,8 +1,7 @@
 -- The laws of intake.
 pub mod Turns
-pub mod EveryColumn
+pub mod FrameExactly
 pub mod CellExactly
-pub mod PassedOver
 pub mod IntakeExactly
 pub mod NeverMore
 pub mod OneByte

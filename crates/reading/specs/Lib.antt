@@ -1,3 +1,3 @@
--- What a cell is, and what intake answers of any bytes.
-pub mod Cell
+-- What intake answers of any bytes.
 pub mod Intake
+pub mod Asked

@@ -1,14 +1,14 @@
 // Intake of a whole cell from any bytes: the headers, then column after column from the west.
 ghost use mathlib.Core.Path.{_≡_};
-ghost use Prim.Native.Nat.{_+_, _*_, _≤_};
-ghost use lib.ListN.{length};
 ghost use Rattle.answers.specs.Told as told;
+ghost use Rattle.reading.specs.Asked.{ColumnsAsked};
 ghost use Rattle.reading.specs.Intake.{columnsFrom, ended, taken};
 use answers::Refusal;
 use answers::Verdict;
 use columns::Judged;
 use columns::judge_head;
-use headers::judge::may_hold_voids;
+use headers::judge::frame_of;
+use layout::Frame;
 use layout::Grid;
 use layout::HEADER_BYTES;
 use octets::numbers::be16;
@@ -31,10 +31,12 @@ pub fn end(long: usize, grid: Grid) -> Verdict
 }
 
 // The columns of a cell, left from inside at the first fault.
-fn take_columns(cell: &[u8], grid: Grid, voids: bool) -> Verdict
-    requires { ⌜ (3428 ≤ length (now cell)) × ((grid .posts ≤ 3601) × (grid .bytes .column ≡ 12 + 2 * grid .posts)) ⌝ }
-    ensures { λ r. ⌜ told.told told.intake r ≡ columnsFrom (now (cell .entry)) grid voids 0 (grid .columns) ⌝ }
+fn take_columns(cell: &[u8], frame: Frame) -> Verdict
+    requires { ⌜ ColumnsAsked (now cell) frame ⌝ }
+    ensures { λ r. ⌜ told.told told.intake r ≡ columnsFrom (now (cell .entry)) frame 0 (frame .grid .columns) ⌝ }
 {
+    let grid = frame.grid;
+    let voids = frame.voids;
     let bytes = grid.bytes;
     let size = bytes.column;
     let columns = grid.columns;
@@ -74,10 +76,7 @@ pub fn intake(cell: &[u8]) -> Verdict
 {
     let judged = headers::judge::judge(cell);
     match judged {
-        headers::Judged::Good(facts) => {
-            let grid = facts.grid;
-            take_columns(cell, grid, may_hold_voids(facts))
-        }
+        headers::Judged::Good(facts) => take_columns(cell, frame_of(facts)),
         headers::Judged::Refused(refusal) => Verdict::Refused(refusal),
     }
 }

@@ -1,2 +1,3 @@
 -- What each field of the headers must hold.
 pub mod Rules
+pub mod Asked

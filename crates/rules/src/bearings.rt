@@ -1,9 +1,10 @@
 // What an angle's field must hold: the digits of its degrees, the zeros after them, and degrees and letter that are due.
 ghost use mathlib.Core.Path.{_≡_};
-ghost use Prim.Native.Nat.{suc, _+_, _<_, _≤_};
+ghost use Prim.Native.Nat.{suc, _+_, _≤_};
 ghost use lib.ListN.{length};
 ghost use Rattle.octets.specs.Texts.{has};
 ghost use Rattle.rules.specs.Rules.{formOf, mayCarry, angleHolds};
+ghost use Rattle.rules.specs.Asked.{OriginInRange, AngleField};
 use crate::Due;
 use crate::texts::MMSS;
 use crate::texts::MMSS_S;
@@ -52,7 +53,7 @@ fn zeros_stand(angle: Angle, field: &[u8]) -> bool
 }
 
 fn may_carry(angle: Angle, due: Due, found: usize, side: u8) -> bool
-    requires { ⌜ (due .latitude < 180) × (due .longitude < 360) ⌝ }
+    requires { ⌜ OriginInRange (due .latitude) (due .longitude) ⌝ }
     ensures { λ r. ⌜ r ≡ mayCarry angle due found side ⌝ }
 {
     match angle {
@@ -68,7 +69,7 @@ fn may_carry(angle: Angle, due: Due, found: usize, side: u8) -> bool
 }
 
 pub fn angle_holds(angle: Angle, due: Due, field: &[u8]) -> bool
-    requires { ⌜ (length (now field) ≡ suc (formOf angle .digits + length (formOf angle .zeros))) × ((due .latitude < 180) × (due .longitude < 360)) ⌝ }
+    requires { ⌜ AngleField angle (due .latitude) (due .longitude) (now field) ⌝ }
     ensures { λ r. ⌜ r ≡ angleHolds angle due (now (field .entry)) ⌝ }
 {
     let n = digits(angle);

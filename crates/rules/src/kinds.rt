@@ -1,9 +1,9 @@
 // What each field must hold: one test to a kind of the field table.
 ghost use mathlib.Core.Path.{_≡_};
-ghost use Prim.Native.Nat.{_<_};
 ghost use lib.ListN.{length};
 ghost use Rattle.octets.specs.Texts.{has};
-ghost use Rattle.rules.specs.Rules.{textOf, isNumber, isAccuracy, isLevel, isSecurity, isSeries, isEdition, isVertical, holds, widthOf};
+ghost use Rattle.rules.specs.Rules.{textOf, isNumber, isAccuracy, isLevel, isSecurity, isSeries, isEdition, isVertical, holds};
+ghost use Rattle.rules.specs.Asked.{SeriesField, FieldOfKind};
 use crate::Due;
 use crate::letters::is_letter;
 use crate::letters::is_version;
@@ -72,7 +72,7 @@ fn security_holds(field: &[u8]) -> bool
 }
 
 fn series_holds(level: usize, field: &[u8]) -> bool
-    requires { ⌜ (length (now field) ≡ 5) × (level < 3) ⌝ }
+    requires { ⌜ SeriesField level (now field) ⌝ }
     ensures { λ r. ⌜ r ≡ isSeries level (now (field .entry)) ⌝ }
 {
     both(
@@ -101,7 +101,7 @@ fn vertical_holds(field: &[u8]) -> bool
 
 // Whether a field of this kind keeps its rule, given what is due.
 pub fn keeps(kind: Kind, due: Due, field: &[u8]) -> bool
-    requires { ⌜ (length (now field) ≡ widthOf kind) × ((due .latitude < 180) × ((due .longitude < 360) × (due .grid .level < 3))) ⌝ }
+    requires { ⌜ FieldOfKind kind due (now field) ⌝ }
     ensures { λ r. ⌜ r ≡ holds kind due (now (field .entry)) ⌝ }
 {
     let grid = due.grid;

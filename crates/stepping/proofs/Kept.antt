@@ -1,5 +1,5 @@
 -- The state after a step: what a good header piece makes due, an answer that is kept, and the bound of the next column.
-use Prim.Native.Nat.{ℕ, _+_, _≤_, _<_}
+use Prim.Native.Nat.{ℕ, _+_, _<_}
 use native.Mathlib.Omega.{arith}
 use mathlib.Core.Path.{_≡_, refl, sym, ap, _∙_}
 use mathlib.Core.Bool.{Bool}
@@ -12,11 +12,11 @@ use Rattle.answers.specs.declared.Verdict.{Verdict}
 use Rattle.answers.specs.declared.Verdict.the-variants as verdict
 use Rattle.layout.specs.Grid.{laid}
 use Rattle.layout.specs.declared.Grid.{Grid}
+use Rattle.layout.specs.declared.Frame.{Frame}
 use Rattle.layout.specs.declared.Laid.{Laid}
 use Rattle.layout.specs.declared.Laid.the-variants.{Out, NoLevel, NoZone}
-use Rattle.layout.proofs.Ranges.{ranged, laid-out}
 use Rattle.angles.specs.Angles.{edgeOf}
-use Rattle.headers.specs.Judged.{judged, voidsAllowed}
+use Rattle.headers.specs.Judged.{judged, frameOf}
 use Rattle.headers.specs.declared.Facts.{Facts}
 use Rattle.headers.specs.declared.Judged.the-variants as headers
 use Rattle.reading.specs.Intake.{ended}
@@ -25,10 +25,10 @@ use Rattle.stepping.specs.Steps.{saidOf, saidOfHeaders, saidOfLaid, said
 use Rattle.stepping.specs.declared.steps.Due.{Due}
 use Rattle.stepping.specs.declared.steps.Phase.{Phase}
 use Rattle.stepping.specs.declared.steps.Phase.the-variants.{Headers, Columns, Over}
-use Rattle.stepping.proofs.Pieces.{piece-past}
+use Rattle.stepping.proofs.Pieces.{piece-past, laid-ranged}
 
 -- a good header piece
-pub headers-good : (piece : List ℕ) (f : Facts) (edge : ℕ) (voids : Bool) → judged piece ≡ headers.Good f → edge ≡ edgeOf (f .latitude) → voids ≡ voidsAllowed f
+pub headers-good : (piece : List ℕ) (f : Facts) (edge : ℕ) (voids : Bool) → judged piece ≡ headers.Good f → edge ≡ edgeOf (f .latitude) → voids ≡ frameOf f .voids
     → Step Headers piece verdict.More (Columns (record { level = f .grid .level; edge = edge; voids = voids; next = 0 }))
 headers-good piece f edge voids e el ev = record {
   said = sym (ap saidOfHeaders e);
@@ -54,20 +54,16 @@ ended-not-more long g e =
     (λ t. refused-not-more 7 (g .bytes .cell) (rw t at e))
 
 -- "more" is said of a column that is due, and so the next number is small
-pub below-columns : (g : Grid) (voids : Bool) (k : ℕ) (piece : List ℕ) → saidOfColumn g voids k piece ≡ more → k < g .columns
-below-columns g voids k piece e =
-    by-order (g .columns) k
-    (λ h. absurd (ended-not-more (g .bytes .cell + length piece) g (sym (piece-past g voids k piece h) ∙ e)))
+pub below-columns : (f : Frame) (k : ℕ) (piece : List ℕ) → saidOfColumn f k piece ≡ more → k < f .grid .columns
+below-columns f k piece e =
+    by-order (f .grid .columns) k
+    (λ h. absurd (ended-not-more (f .grid .bytes .cell + length piece) (f .grid) (sym (piece-past f k piece h) ∙ e)))
     (λ h. h)
 
 by-laid : (level edge : ℕ) (voids : Bool) (k : ℕ) (piece : List ℕ) (x : Laid) → laid level edge ≡ x → saidOfLaid x voids k piece ≡ more → k < 3601
 by-laid level edge voids k piece (Out g) l e =
-    let out = laid-out level edge g l in
-    let in-range = ranged level edge (out .0) (out .1 .0) in
-    let same = out .1 .1 in
-    let below : k < g .columns = below-columns g voids k piece e in
-    let high : g .columns ≤ 3601 = rw same (in-range .columns-high) in
-    omega arith
+    let below = below-columns (record { grid = g; voids = voids }) k piece e in
+    omega (arith, laid-ranged level edge g l .columns-high)
 by-laid level edge voids k piece NoLevel l e = let n : _≡_ {A = ℕ} 0 1 = cc in absurd (omega arith)
 by-laid level edge voids k piece NoZone l e = let n : _≡_ {A = ℕ} 0 1 = cc in absurd (omega arith)
 

@@ -16,15 +16,15 @@ use Rattle.layout.specs.declared.Laid.the-variants.{Out}
 use Rattle.layout.proofs.Ranges.{laid-in}
 use Rattle.headers.specs.Due.{levelAt}
 use Rattle.angles.specs.Angles.{edgeOf}
-use Rattle.headers.specs.Judged.{judged, factsIn, voidsAllowed}
-use Rattle.headers.specs.declared.Facts.{Facts}
+use Rattle.headers.specs.Judged.{judged, factsIn, frameIn, Follows}
 use Rattle.headers.specs.declared.Judged.{Judged}
 use Rattle.headers.specs.declared.Judged.the-variants.{Good, Refused}
-use Rattle.headers.proofs.Exactly.{good-follows}
+use Rattle.headers.proofs.Exactly.{good-follows, follows-good}
 use Rattle.headers.proofs.FirstFour.{good-facts, level-below}
 use Rattle.angles.proofs.NearEdges.{edge-below}
 use Rattle.headers.proofs.SameHeaders.{same-headers}
 use Rattle.reading.specs.Intake.{takenBy, taken}
+use Rattle.reading.proofs.CellExactly.{taken-framed}
 use Rattle.reading.proofs.NeverMore.{numbered-not-more}
 use Rattle.stepping.specs.Steps.{saidOfHeaders, dueAfter, after, Fed, firstPiece, laterPieces}
 use Rattle.stepping.specs.declared.steps.Phase.{Phase}
@@ -39,38 +39,35 @@ first-same s =
     (λ h. ap judged (take-all 3428 s (omega arith)))
 
 -- the grid of good headers is laid out
-good-laid : (s : List ℕ) (f : Facts) → judged s ≡ Good f → laid (f .grid .level) (edgeOf (f .latitude)) ≡ Out (f .grid)
+good-laid : (s : List ℕ) → Follows s → laid (frameIn s .grid .level) (edgeOf (factsIn s .latitude)) ≡ Out (frameIn s .grid)
 unfolding gridOf
-good-laid s f e =
-    let g = good-facts s f e in
-    let level : f .grid .level ≡ levelAt s = ap (λ (x : Grid). x .level) (g .laid) in
-    ap (λ (l : ℕ). laid l (edgeOf (f .latitude))) level
-    ∙ laid-in (levelAt s) (edgeOf (f .latitude)) (level-below s) (edge-below (f .latitude) (g .latitude))
-    ∙ ap Out (sym (g .laid))
+good-laid s h =
+    let good = good-facts s (factsIn s) (follows-good s h) in
+    let edge = edgeOf (factsIn s .latitude) in
+    ap (λ (g : Grid). laid (g .level) edge) (good .laid)
+    ∙ laid-in (levelAt s) edge (level-below s) (edge-below (factsIn s .latitude) (good .latitude))
+    ∙ ap Out (sym (good .laid))
 
 -- the pieces of a file under this grid
 abbrev pub Cut : List ℕ → Grid → Verdict → Type 0
 Cut s g w = Fed Headers (take 3428 s) (firstPiece s g 0 (g .columns) ∷ laterPieces s g 0 (g .columns)) w
 
-by-judged : (s : List ℕ) (x : Judged) (w : Verdict) → judged s ≡ x → Cut s (factsIn s .grid) w → told intake w ≡ takenBy s x
-by-judged s (Refused r) w e f =
-    let g = factsIn s .grid in
-    let say = f .1 .0 ∙ ap saidOfHeaders (first-same s ∙ e) in
-    settled (f .0) (numbered r) Headers (take 3428 s) (firstPiece s g 0 (g .columns)) (laterPieces s g 0 (g .columns)) w say (numbered-not-more r) (f .1 .1)
-by-judged s (Good d) w e f =
-    let g = factsIn s .grid in
-    let follows = good-follows s d e in
-    let same : g ≡ d .grid = ap (λ (x : Facts). x .grid) (sym (follows .1)) in
-    let say = f .1 .0 ∙ ap saidOfHeaders (first-same s ∙ e) in
-    let is-more = told-injective intake (f .0) verdict.More say in
-    let state : after Headers (take 3428 s) (f .0) ≡ dueAfter (Good d) = ap (after Headers (take 3428 s)) is-more ∙ ap dueAfter (first-same s ∙ e) in
-    let fed = subst (λ (p : Phase). Fed p (firstPiece s g 0 (g .columns)) (laterPieces s g 0 (g .columns)) w) state (f .1 .1) in
-    let fed-due =
-    subst (λ (x : Grid). Fed (dueAfter (Good d)) (firstPiece s x 0 (x .columns)) (laterPieces s x 0 (x .columns)) w) same fed
-    in
-    columns-fed s (d .grid) (d .grid .level) (edgeOf (d .latitude)) (voidsAllowed d) (good-laid s d e) (good-facts s d e .grid)
-    (d .grid .columns) 0 w (omega arith) (omega (arith, follows .0 .0)) fed-due
-
-pub steps-whole : (s : List ℕ) (w : Verdict) → Cut s (factsIn s .grid) w → told intake w ≡ taken s
+by-judged : (s : List ℕ) (x : Judged) (w : Verdict) → judged s ≡ x → Cut s (frameIn s .grid) w → told intake w ≡ taken s
 unfolding taken
-steps-whole s w f = by-judged s (judged s) w refl f
+by-judged s (Refused r) w e fed =
+    let g = frameIn s .grid in
+    settled (fed .0) (numbered r) Headers (take 3428 s) (firstPiece s g 0 (g .columns)) (laterPieces s g 0 (g .columns)) w
+    (fed .1 .0 ∙ ap saidOfHeaders (first-same s ∙ e)) (numbered-not-more r) (fed .1 .1)
+    ∙ sym (ap (takenBy s) e)
+by-judged s (Good d) w e fed =
+    let f = frameIn s in
+    let h = good-follows s d e .0 in
+    let good = first-same s ∙ follows-good s h in
+    let is-more = told-injective intake (fed .0) verdict.More (fed .1 .0 ∙ ap saidOfHeaders good) in
+    let state : after Headers (take 3428 s) (fed .0) ≡ dueAfter (Good (factsIn s)) = ap (after Headers (take 3428 s)) is-more ∙ ap dueAfter good in
+    columns-fed s f (f .grid .level) (edgeOf (factsIn s .latitude)) (good-laid s h) (f .grid .columns) 0 w (omega arith) (omega (arith, h .0))
+    (subst (λ (p : Phase). Fed p (firstPiece s (f .grid) 0 (f .grid .columns)) (laterPieces s (f .grid) 0 (f .grid .columns)) w) state (fed .1 .1))
+    ∙ sym (taken-framed s h)
+
+pub steps-whole : (s : List ℕ) (w : Verdict) → Cut s (frameIn s .grid) w → told intake w ≡ taken s
+steps-whole s w fed = by-judged s (judged s) w refl fed

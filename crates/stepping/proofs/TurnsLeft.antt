@@ -14,7 +14,6 @@ use Rattle.layout.specs.Zones.{factorAmong, factorOf}
 use Rattle.layout.specs.Grid.{laid, longitudeInterval, columnsOf}
 use Rattle.layout.specs.declared.Laid.{Laid}
 use Rattle.layout.specs.declared.Laid.the-variants.{Out, NoLevel, NoZone}
-use Rattle.layout.proofs.Ranges.{ranged, laid-out}
 use Rattle.headers.specs.Judged.{judged}
 use Rattle.headers.specs.declared.Judged.{Judged}
 use Rattle.headers.specs.declared.Judged.the-variants.{Good, Refused}
@@ -23,6 +22,7 @@ use Rattle.stepping.specs.Steps.{saidOf, saidOfHeaders, saidOfLaid, want
 use Rattle.stepping.specs.Turns.{isFinal, Going, new, on, turnsOf, mostColumns, turnsLeft}
 use Rattle.stepping.specs.declared.steps.Phase.{Phase}
 use Rattle.stepping.specs.declared.steps.Phase.the-variants.{Headers, Columns, Over}
+use Rattle.stepping.proofs.Pieces.{laid-ranged}
 use Rattle.stepping.proofs.Kept.{below-columns}
 
 -- S5: an answer is final exactly where it tells something else than "more"
@@ -46,15 +46,12 @@ new-turns = rw most-counted
 
 -- a state in which columns are due
 laid-turns : (level edge k : ℕ) (x : Laid) → laid level edge ≡ x → turnsOf x k < turnsLeft Headers
-laid-turns level edge k (Out g) l =
-    let out = laid-out level edge g l in
-    let high : g .columns ≤ 3601 = rw (out .1 .1) (ranged level edge (out .0) (out .1 .0) .columns-high) in
-    rw new-turns (omega arith)
+laid-turns level edge k (Out g) l = rw new-turns (omega (arith, laid-ranged level edge g l .columns-high))
 laid-turns level edge k NoLevel l = rw new-turns (lit< tt)
 laid-turns level edge k NoZone l = rw new-turns (lit< tt)
 
 laid-fall : (voids : Bool) (k : ℕ) (piece : List ℕ) (x : Laid) → saidOfLaid x voids k piece ≡ more → turnsOf x (k + 1) < turnsOf x k
-laid-fall voids k piece (Out g) e = let below = below-columns g voids k piece e in omega arith
+laid-fall voids k piece (Out g) e = let below = below-columns (record { grid = g; voids = voids }) k piece e in omega arith
 laid-fall voids k piece NoLevel e = absurd (refused-not-more 8 0 e)
 laid-fall voids k piece NoZone e = absurd (refused-not-more 8 0 e)
 

@@ -11,14 +11,15 @@ use Rattle.answers.specs.declared.Verdict.{Verdict}
 use Rattle.answers.specs.declared.Verdict.the-variants as verdict
 use Rattle.layout.specs.Grid.{laid, headerBytes}
 use Rattle.layout.specs.declared.Grid.{Grid}
+use Rattle.layout.specs.declared.Frame.{Frame}
 use Rattle.layout.specs.declared.Laid.{Laid}
 use Rattle.layout.specs.declared.Laid.the-variants.{Out, NoLevel, NoZone}
 use Rattle.angles.specs.Angles.{edgeOf}
-use Rattle.headers.specs.Judged.{judged, voidsAllowed}
+use Rattle.headers.specs.Judged.{judged, frameOf}
 use Rattle.headers.specs.declared.Judged.{Judged}
 use Rattle.headers.specs.declared.Judged.the-variants as headers
 use Rattle.columns.specs.Judged.{judgedColumn}
-use Rattle.reading.specs.Cell.{startOf, columnAt}
+use Rattle.cells.specs.Cell.{startOf, columnAt}
 use Rattle.reading.specs.Intake.{orRest, ended}
 use Rattle.stepping.specs.declared.steps.Phase.{Phase}
 use Rattle.stepping.specs.declared.steps.Phase.the-variants.{Headers, Columns, Over}
@@ -28,18 +29,18 @@ abbrev pub saidOfHeaders : Judged → said.Told
 saidOfHeaders (headers.Good f) = said.more
 saidOfHeaders (headers.Refused r) = said.numbered r
 
--- S2, S3, S4: a piece for column k of this grid, or after the last column
-unfoldable pub saidOfColumn : Grid → Bool → ℕ → List ℕ → said.Told
-saidOfColumn g voids k piece =
-    pick (ltb k (g .columns))
-    (pick (leb (g .bytes .column) (length piece))
-    (orRest (judgedColumn (take (g .bytes .column) piece) k (g .posts) voids (startOf g k)) said.more)
-    (said.refused 3 (startOf g k)))
-    (ended (g .bytes .cell + length piece) g)
+-- S2, S3, S4: a piece for column k under this frame, or after the last column
+unfoldable pub saidOfColumn : Frame → ℕ → List ℕ → said.Told
+saidOfColumn f k piece =
+    pick (ltb k (f .grid .columns))
+    (pick (leb (f .grid .bytes .column) (length piece))
+    (orRest (judgedColumn (take (f .grid .bytes .column) piece) k (f .grid .posts) (f .voids) (startOf (f .grid) k)) said.more)
+    (said.refused 3 (startOf (f .grid) k)))
+    (ended (f .grid .bytes .cell + length piece) (f .grid))
 
 -- a state whose level or edge there is not, which no step makes, is off the grid
 abbrev pub saidOfLaid : Laid → Bool → ℕ → List ℕ → said.Told
-saidOfLaid (Out g) voids k piece = saidOfColumn g voids k piece
+saidOfLaid (Out g) voids k piece = saidOfColumn (record { grid = g; voids = voids }) k piece
 saidOfLaid NoLevel voids k piece = said.refused 8 0
 saidOfLaid NoZone voids k piece = said.refused 8 0
 
@@ -62,7 +63,7 @@ wanted (Over v) = 0
 
 -- S1: what is due once a piece was good
 abbrev pub dueAfter : Judged → Phase
-dueAfter (headers.Good f) = Columns (record { level = f .grid .level; edge = edgeOf (f .latitude); voids = voidsAllowed f; next = 0 })
+dueAfter (headers.Good f) = Columns (record { level = f .grid .level; edge = edgeOf (f .latitude); voids = frameOf f .voids; next = 0 })
 dueAfter (headers.Refused r) = Over (verdict.Refused r)
 
 abbrev pub advanced : Phase → List ℕ → Phase

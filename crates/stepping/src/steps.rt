@@ -1,14 +1,15 @@
 // Intake step by step: the headers, a piece for each column, then the rest. The state goes in and comes back by value.
 ghost use mathlib.Core.Path.{_≡_};
-ghost use Prim.Native.Nat.{_+_, _*_, _≤_};
+ghost use Prim.Native.Nat.{_≤_};
 ghost use Rattle.answers.specs.Told as told;
+ghost use Rattle.layout.specs.Ranges.{Ranged};
 ghost use Rattle.stepping.specs.Steps.{saidOf, saidOfColumn, Step, wanted};
 use angles::near_edge;
 use answers::Refusal;
 use answers::Verdict;
 use columns::Judged;
-use headers::judge::may_hold_voids;
-use layout::Grid;
+use headers::judge::frame_of;
+use layout::Frame;
 use layout::HEADER_BYTES;
 use layout::Laid;
 use reading::intake::end;
@@ -38,11 +39,12 @@ pub struct Stepped {
     pub answer: Verdict,
 }
 
-// What a piece answers where column `next` of the grid is due, or where none is left.
-fn column_answer(grid: Grid, voids: bool, next: usize, piece: &[u8]) -> Verdict
-    requires { ⌜ (grid .columns ≤ 3601) × ((grid .posts ≤ 3601) × ((grid .bytes .column ≡ 12 + 2 * grid .posts) × (grid .bytes .cell ≤ 25981042))) ⌝ }
-    ensures { λ r. ⌜ told.told told.intake r ≡ saidOfColumn grid voids next (now (piece .entry)) ⌝ }
+// What a piece answers where column `next` under the frame is due, or where none is left.
+fn column_answer(frame: Frame, next: usize, piece: &[u8]) -> Verdict
+    requires { ⌜ Ranged (frame .grid) ⌝ }
+    ensures { λ r. ⌜ told.told told.intake r ≡ saidOfColumn frame next (now (piece .entry)) ⌝ }
 {
+    let grid = frame.grid;
     let bytes = grid.bytes;
     let size = bytes.column;
     if grid.columns <= next {
@@ -53,7 +55,7 @@ fn column_answer(grid: Grid, voids: bool, next: usize, piece: &[u8]) -> Verdict
         return Verdict::Refused(Refusal::Cut(base));
     }
     let posts = grid.posts;
-    let judged = columns::judge(&piece[..size], next, posts, voids, base);
+    let judged = columns::judge(&piece[..size], next, posts, frame.voids, base);
     match judged {
         Judged::Good => Verdict::More,
         Judged::Refused(refusal) => Verdict::Refused(refusal),
@@ -66,7 +68,14 @@ fn columns_answer(due: Due, piece: &[u8]) -> Verdict
 {
     let laid = layout::lay(due.level, due.edge);
     match laid {
-        Laid::Out(grid) => column_answer(grid, due.voids, due.next, piece),
+        Laid::Out(grid) => column_answer(
+            Frame {
+                grid,
+                voids: due.voids,
+            },
+            due.next,
+            piece,
+        ),
         Laid::NoLevel => Verdict::Refused(Refusal::OffGrid),
         Laid::NoZone => Verdict::Refused(Refusal::OffGrid),
     }
@@ -91,12 +100,13 @@ fn first_step(piece: &[u8]) -> Stepped
     match judged {
         headers::Judged::Good(facts) => {
             let grid = facts.grid;
+            let frame = frame_of(facts);
             Stepped {
                 steps: Steps {
                     phase: Phase::Columns(Due {
                         level: grid.level,
                         edge: near_edge(facts.latitude),
-                        voids: may_hold_voids(facts),
+                        voids: frame.voids,
                         next: 0,
                     }),
                 },

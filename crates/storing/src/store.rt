@@ -1,10 +1,6 @@
 // Storing one post of a good column: its word, and the checksum that the column then has.
 ghost use mathlib.Core.Path.{_≡_};
-ghost use Prim.Native.Nat.{_+_, _*_, _<_, _≤_};
-ghost use lib.ListN.{length, take};
-ghost use Rattle.octets.specs.Numbers.{numberAt};
-ghost use Rattle.octets.specs.Sums.{sumOf};
-ghost use Rattle.columns.specs.Column.{sumAt};
+ghost use Rattle.storing.specs.Asked.{Storable};
 ghost use Rattle.storing.specs.Stored.{stored};
 use octets::numbers::be32;
 use octets::numbers::put16;
@@ -13,7 +9,7 @@ use octets::sums::sum;
 
 // Post `post` of a column whose checksum is right made this word: its two bytes and the checksum's four are written.
 pub fn store(column: &mut [u8], posts: usize, post: usize, word: u16)
-    requires { ⌜ (length (now column) ≡ 12 + 2 * posts) × ((post < posts) × ((posts ≤ 3601) × (numberAt (now column) (sumAt posts) 4 ≡ sumOf (take (sumAt posts) (now column))))) ⌝ }
+    requires { ⌜ Storable (now column) posts post ⌝ }
     ensures { λ _. ⌜ now (column .exit) ≡ stored (now (column .entry)) posts post word ⌝ }
 {
     let at = 8 + 2 * post;

@@ -1,14 +1,13 @@
 -- X1, N14: the column writer answers exactly the first row of its order that holds.
-use Prim.Native.Nat.{ℕ, _<_}
+use Prim.Native.Nat.{ℕ, _+_, _*_, _<_}
 use mathlib.Core.Path.{_≡_}
 use mathlib.Core.Bool.{true}
-use mathlib.Core.List.{List}
-use lib.IntN.{ℤ}
 use Rattle.answers.specs.declared.Outcome.{Outcome}
 use Rattle.answers.specs.declared.Outcome.the-variants.{Done}
 use Rattle.layout.specs.Levels.{postsOf, columnBytes}
 use Rattle.layout.specs.Grid.{gridOf}
 use Rattle.layout.specs.declared.Grid.{Grid}
+use Rattle.sources.specs.Given.{Given}
 use Rattle.streaming.specs.Given.{judgedPosts}
 use Rattle.streaming.specs.Column.{zoneOneColumns, placed, afterNumber, judgedColumn}
 use Rattle.streaming.specs.declared.column.Placed.the-variants.{On}
@@ -16,34 +15,34 @@ use Rattle.streaming.proofs.GivenExactly.{GivenRow, given-row, row-give
 use Rattle.streaming.proofs.NumberExactly.{NumberRow, placed-on}
 use Rattle.streaming.proofs.NumberExactly as by-number
 
-module _ (level number : ℕ) (zs : List ℤ) (room : ℕ) where
+module _ (level number : ℕ) (g : Given) (room : ℕ) where
   -- 9 for the level, 8 for the number, then 10, 11, 12, or done
   abbrev pub ColumnRow : Outcome → Type 0
-  ColumnRow = NumberRow level number (GivenRow (postsOf level) (columnBytes (postsOf level)) true zs room)
+  ColumnRow = NumberRow level number (GivenRow (postsOf level) (columnBytes (postsOf level)) true g room)
 
   -- every row's answer is given
-  pub given : (x : Outcome) → ColumnRow x → judgedColumn level number zs room ≡ x
+  pub given : (x : Outcome) → ColumnRow x → judgedColumn level number g room ≡ x
   unfolding judgedColumn
-  given = by-number.given level number _ _ (given-row (postsOf level) (columnBytes (postsOf level)) true zs room)
+  given = by-number.given level number _ _ (given-row (postsOf level) (columnBytes (postsOf level)) true g room)
 
   -- and every answer is a row's
-  pub row : ColumnRow (judgedColumn level number zs room)
+  pub row : ColumnRow (judgedColumn level number g room)
   unfolding judgedColumn
-  row = by-number.row level number _ _ (row-given (postsOf level) (columnBytes (postsOf level)) true zs room)
+  row = by-number.row level number _ _ (row-given (postsOf level) (columnBytes (postsOf level)) true g room)
 
   -- by the grid that the column was placed on
-  pub judged-on : (g : Grid) → placed level number ≡ On g → judgedPosts (g .posts) (g .bytes .column) true zs room ≡ judgedColumn level number zs room
+  pub judged-on : (on-it : Grid) → placed level number ≡ On on-it → judgedPosts (on-it .posts) (12 + 2 * on-it .posts) true g room ≡ judgedColumn level number g room
   unfolding judgedColumn afterNumber gridOf
-  judged-on g on = rw (on, placed-on level number g on .1 .1)
+  judged-on on-it on = rw (on, placed-on level number on-it on .1 .1)
 
 -- what an accepted call was given
-pub record Ready (level number : ℕ) (zs : List ℤ) (room : ℕ) : Type 0 where
+pub record Ready (level number : ℕ) (g : Given) (room : ℕ) : Type 0 where
   pub level-there : level < 3
   pub number-there : number < zoneOneColumns level
-  pub fine : Fine (postsOf level) (columnBytes (postsOf level)) true zs room
+  pub fine : Fine (postsOf level) (columnBytes (postsOf level)) true g room
 
-pub ready : (level number : ℕ) (zs : List ℤ) (room : ℕ) → judgedColumn level number zs room ≡ Done → Ready level number zs room
+pub ready : (level number : ℕ) (g : Given) (room : ℕ) → judgedColumn level number g room ≡ Done → Ready level number g room
 unfolding judgedColumn
-ready level number zs room done =
+ready level number g room done =
     let r = by-number.ready level number _ done in
-    record { level-there = r .0; number-there = r .1 .0; fine = given-fine _ _ true zs room (r .1 .1) }
+    record { level-there = r .0; number-there = r .1 .0; fine = given-fine _ _ true g room (r .1 .1) }

@@ -1,5 +1,4 @@
 -- The laws of what writers are given, and of the column writer.
-pub mod HeightSearch
 pub mod GivenExactly
 pub mod NumberExactly
 pub mod ColumnExactly

@@ -13,7 +13,8 @@ use Rattle.answers.specs.declared.Outcome.the-variants.{Done, Refused}
 use Rattle.layout.specs.Levels.{postsOf}
 use Rattle.layout.specs.Grid.{gridOf}
 use Rattle.layout.specs.declared.Grid.{Grid}
-use Rattle.layout.proofs.Ranges.{Ranged, ranged}
+use Rattle.layout.specs.Ranges.{Ranged}
+use Rattle.layout.proofs.Ranges.{ranged}
 use Rattle.streaming.specs.Column.{zoneOneColumns, placed, orRest, afterNumber}
 use Rattle.streaming.specs.declared.column.Placed.{Placed}
 use Rattle.streaming.specs.declared.column.Placed.the-variants as placing

@@ -12,6 +12,7 @@ use Rattle.answers.specs.declared.Outcome.{Outcome}
 use Rattle.answers.specs.declared.Outcome.the-variants.{Refused}
 use Rattle.layout.specs.Levels.{postsOf, columnBytes}
 use Rattle.layout.specs.Grid.{columnsOf, gridOf}
+use Rattle.sources.specs.Given.{Given, numbers, heightsOf}
 use Rattle.columns.specs.Column.{columnOf}
 use Rattle.streaming.specs.Given.{judgedPosts, outputAfter}
 use Rattle.streaming.specs.declared.column.Placed.{Placed}
@@ -37,12 +38,19 @@ unfoldable pub afterNumber : ℕ → ℕ → Outcome → Outcome
 afterNumber level number rest = orRest (placed level number) rest
 
 -- X1: the order of the call, for an output of so many bytes
-unfoldable pub judgedColumn : ℕ → ℕ → List ℤ → ℕ → Outcome
-judgedColumn level number zs room = afterNumber level number (judgedPosts (postsOf level) (columnBytes (postsOf level)) true zs room)
+unfoldable pub judgedColumn : ℕ → ℕ → Given → ℕ → Outcome
+judgedColumn level number g room = afterNumber level number (judgedPosts (postsOf level) (columnBytes (postsOf level)) true g room)
 
--- what is told of the call, and the output at its end
+-- what is told of the call, and the output at its end: from any source
+unfoldable pub givenTold : ℕ → ℕ → Given → List ℕ → Told
+givenTold level number g out = told act (judgedColumn level number g (length out))
+
+unfoldable pub givenOutput : ℕ → ℕ → Given → List ℕ → List ℕ
+givenOutput level number g out = outputAfter (judgedColumn level number g (length out)) (columnOf number (heightsOf g)) out
+
+-- and from heights
 unfoldable pub columnTold : ℕ → ℕ → List ℤ → List ℕ → Told
-columnTold level number zs out = told act (judgedColumn level number zs (length out))
+columnTold level number zs out = told act (judgedColumn level number (numbers zs) (length out))
 
 unfoldable pub columnOutput : ℕ → ℕ → List ℤ → List ℕ → List ℕ
-columnOutput level number zs out = outputAfter (judgedColumn level number zs (length out)) (columnOf number zs) out
+columnOutput level number zs out = outputAfter (judgedColumn level number (numbers zs) (length out)) (columnOf number zs) out

@@ -1,28 +1,28 @@
--- What both writers judge of the heights they are given and of the output: 10, 11, then 12 (rules N10 to N12).
-use Prim.Native.Nat.{ℕ, _+_}
+-- What both writers judge of what they are given, from whatever source, and of the output: 10, 11, then 12 (rules N10 to N12).
+use Prim.Native.Nat.{ℕ}
 use mathlib.Core.Bool.{Bool}
-use mathlib.Core.List.{List, [], _∷_, _++_}
-use lib.IntN.{ℤ}
+use mathlib.Core.List.{List, _++_}
 use lib.ListN.{length, drop}
-use lib.Dec.{eqb, leb}
+use lib.Dec.{leb}
 use Rattle.octets.specs.Choice.{pick}
+use Rattle.octets.specs.Scan.{firstBad}
 use Rattle.posts.specs.Heights.{heightAllowed}
+use Rattle.sources.specs.Given.{Given, nthHeight, counts}
 use Rattle.answers.specs.declared.Refusal.the-variants.{GridLength, Height, Room}
 use Rattle.answers.specs.declared.Outcome.{Outcome}
 use Rattle.answers.specs.declared.Outcome.the-variants.{Done, Refused}
 
--- N11: the first of the heights, counted from i, that may not be held; else the rest
-unfoldable pub heightsThen : Bool → ℕ → List ℤ → Outcome → Outcome
-heightsThen voids i [] rest = rest
-heightsThen voids i (z ∷ zs) rest = pick (heightAllowed voids z) (heightsThen voids (i + 1) zs rest) (Refused (Height i))
+-- N11: the first of n heights that may not be held; else the rest
+unfoldable pub heightsThen : Bool → Given → ℕ → Outcome → Outcome
+heightsThen voids g n rest = firstBad (λ (i : ℕ). heightAllowed voids (nthHeight g i)) (λ (i : ℕ). Refused (Height i)) rest 0 n
 
 -- N12: room for so many bytes
 unfoldable pub roomFor : ℕ → ℕ → Outcome
 roomFor due room = pick (leb due room) Done (Refused (Room due))
 
 -- N10, N11, N12: so many posts and so many bytes are due
-unfoldable pub judgedPosts : ℕ → ℕ → Bool → List ℤ → ℕ → Outcome
-judgedPosts posts bytes voids zs room = pick (eqb (length zs) posts) (heightsThen voids 0 zs (roomFor bytes room)) (Refused (GridLength posts))
+unfoldable pub judgedPosts : ℕ → ℕ → Bool → Given → ℕ → Outcome
+judgedPosts posts due voids g room = pick (counts g posts) (heightsThen voids g posts (roomFor due room)) (Refused (GridLength posts))
 
 -- W4, N15: the output begins with what was written, and is as it was past that; where the call was refused, it is as it was
 abbrev pub outputAfter : Outcome → List ℕ → List ℕ → List ℕ

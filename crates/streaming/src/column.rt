@@ -1,12 +1,14 @@
 // The column writer: one column from a level, its number and its heights, voids allowed.
 ghost use mathlib.Core.Path.{_≡_};
 ghost use Rattle.answers.specs.Told as told;
-ghost use Rattle.streaming.specs.Column.{placed, judgedColumn, columnTold, columnOutput};
+ghost use Rattle.sources.specs.Given.{given};
+ghost use Rattle.streaming.specs.Column.{placed, givenTold, givenOutput, columnTold, columnOutput};
 use crate::given::judge_posts;
 use answers::Outcome;
 use answers::Refusal;
 use columns::write::put_column;
 use layout::Grid;
+use sources::Source;
 
 // The grid that has a column, or why there is no such column.
 pub enum Placed {
@@ -28,14 +30,27 @@ pub fn place(level: usize, number: usize) -> Placed
     Placed::On(grid)
 }
 
-// Whether the column may be written into so much room.
-fn judge(level: usize, number: usize, heights: &[i16], room: usize) -> Outcome
-    ensures { λ r. ⌜ r ≡ judgedColumn level number (now (heights .entry)) room ⌝ }
+// Column `number` of a level from what is given, at the front of `out`; any level and number, any source.
+pub fn write_given(
+    out: &mut [u8],
+    level: usize,
+    number: usize,
+    source: Source,
+    numbers: &[i16],
+    bytes: &[u8],
+) -> Outcome
+    ensures { λ r. ⌜ told.told told.act r ≡ givenTold level number (given source (now (numbers .entry)) (now (bytes .entry))) (now (out .entry)) ⌝ }
+    ensures { λ _. ⌜ now (out .exit) ≡ givenOutput level number (given source (now (numbers .entry)) (now (bytes .entry))) (now (out .entry)) ⌝ }
 {
     match place(level, number) {
         Placed::On(grid) => {
-            let bytes = grid.bytes;
-            judge_posts(heights, true, grid.posts, bytes.column, room)
+            let posts = grid.posts;
+            let end = 12 + 2 * posts;
+            let judged = judge_posts(source, numbers, bytes, true, posts, end, out.len());
+            if let Outcome::Done = judged {
+                put_column(&mut out[0..end], number, source, numbers, bytes, 0, posts);
+            }
+            judged
         }
         Placed::Refused(refusal) => Outcome::Refused(refusal),
     }
@@ -46,10 +61,5 @@ pub fn write(out: &mut [u8], level: usize, number: usize, heights: &[i16]) -> Ou
     ensures { λ r. ⌜ told.told told.act r ≡ columnTold level number (now (heights .entry)) (now (out .entry)) ⌝ }
     ensures { λ _. ⌜ now (out .exit) ≡ columnOutput level number (now (heights .entry)) (now (out .entry)) ⌝ }
 {
-    let judged = judge(level, number, heights, out.len());
-    if let Outcome::Done = judged {
-        let end = 12 + 2 * heights.len();
-        put_column(&mut out[0..end], number, heights);
-    }
-    judged
+    write_given(out, level, number, Source::Numbers, heights, &[])
 }

@@ -1,12 +1,16 @@
-// What both writers judge of the heights they are given and of the output.
+// What both writers judge of what they are given, from whatever source, and of the output.
 ghost use mathlib.Core.Path.{_≡_};
+ghost use Rattle.sources.specs.Given.{given, countOf};
 ghost use Rattle.streaming.specs.Given.{heightsThen, roomFor, judgedPosts};
 use answers::Outcome;
 use answers::Refusal;
 use posts::heights::is_allowed;
+use sources::Source;
+use sources::are_given;
+use sources::height_at;
 
 // Room for so many bytes.
-pub fn judge_room(due: usize, room: usize) -> Outcome
+fn judge_room(due: usize, room: usize) -> Outcome
     ensures { λ r. ⌜ r ≡ roomFor due room ⌝ }
 {
     if room < due {
@@ -17,26 +21,43 @@ pub fn judge_room(due: usize, room: usize) -> Outcome
 }
 
 // The first height or void that may not be held, then the room.
-fn judge_heights(heights: &[i16], voids: bool, bytes: usize, room: usize) -> Outcome
-    ensures { λ r. ⌜ r ≡ heightsThen voids 0 (now (heights .entry)) (roomFor bytes room) ⌝ }
+fn judge_heights(
+    source: Source,
+    numbers: &[i16],
+    bytes: &[u8],
+    voids: bool,
+    posts: usize,
+    due: usize,
+    room: usize,
+) -> Outcome
+    requires { ⌜ countOf (given source (now numbers) (now bytes)) ≡ posts ⌝ }
+    ensures { λ r. ⌜ r ≡ heightsThen voids (given source (now (numbers .entry)) (now (bytes .entry))) posts (roomFor due room) ⌝ }
 {
     let mut i = 0;
-    while i < heights.len() {
-        let height = heights[i];
+    while i < posts {
+        let height = height_at(source, numbers, bytes, i);
         if !is_allowed(height as i64, voids) {
             return Outcome::Refused(Refusal::Height(i));
         }
         i += 1;
     }
-    judge_room(bytes, room)
+    judge_room(due, room)
 }
 
 // So many posts are due, each one that may be held, and room for so many bytes.
-pub fn judge_posts(heights: &[i16], voids: bool, posts: usize, bytes: usize, room: usize) -> Outcome
-    ensures { λ r. ⌜ r ≡ judgedPosts posts bytes voids (now (heights .entry)) room ⌝ }
+pub fn judge_posts(
+    source: Source,
+    numbers: &[i16],
+    bytes: &[u8],
+    voids: bool,
+    posts: usize,
+    due: usize,
+    room: usize,
+) -> Outcome
+    ensures { λ r. ⌜ r ≡ judgedPosts posts due voids (given source (now (numbers .entry)) (now (bytes .entry))) room ⌝ }
 {
-    if heights.len() != posts {
+    if !are_given(source, numbers, bytes, posts) {
         return Outcome::Refused(Refusal::GridLength(posts));
     }
-    judge_heights(heights, voids, bytes, room)
+    judge_heights(source, numbers, bytes, voids, posts, due, room)
 }

@@ -74,7 +74,8 @@ fn description(level: usize, longitude: usize, partial: usize) -> Description {
 fn put_headers(cell: &mut [u8], d: Description) {
     if HEADER_BYTES <= cell.len() {
         if describing::items::bad_item(d) == 0 {
-            composing::write::put_headers(cell, d);
+            let facts = describing::facts::facts_for(d);
+            composing::write::put_headers(cell, d, facts.grid);
         }
     }
 }

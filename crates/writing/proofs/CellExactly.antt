@@ -1,57 +1,64 @@
--- W1, N14: the writer answers exactly the first row of its order that holds.
+-- W1, N14: the writer answers exactly the first row of its order that holds, whatever the source.
 use Prim.Native.Nat.{ℕ}
-use mathlib.Core.Path.{_≡_, sym}
-use mathlib.Core.Bool.{Bool, true}
-use mathlib.Core.List.{List}
-use lib.IntN.{ℤ}
+use mathlib.Core.Path.{_≡_}
+use mathlib.Core.Bool.{true}
 use Rattle.answers.specs.declared.Outcome.{Outcome}
 use Rattle.answers.specs.declared.Outcome.the-variants.{Done}
+use Rattle.layout.specs.declared.Frame.{Frame}
 use Rattle.describing.specs.Items.{itemTests, badItem, inRange}
-use Rattle.headers.specs.Judged.{voidsAllowed}
-use Rattle.headers.specs.declared.Facts.{Facts}
-use Rattle.describing.specs.Facts.{factsFor}
 use Rattle.describing.specs.declared.Description.{Description}
-use Rattle.streaming.specs.Given.{judgedPosts}
-use Rattle.writing.specs.Cell.{postsDue, judgedCell}
+use Rattle.sources.specs.Given.{Given}
 use Rattle.streaming.proofs.GivenExactly.{GivenRow, given-row, row-given, Fine, given-fine}
+use Rattle.writing.specs.Cell.{postsDue, frameFor, judgedUnder, judgedCell}
 use Rattle.writing.proofs.ItemExactly.{ItemRow, none-bad}
 use Rattle.writing.proofs.ItemExactly as by-item
 
-module _ (d : Description) (zs : List ℤ) (room : ℕ) where
-  -- 10 to 12 under items in range
-  abbrev pub judgedThen : Outcome
-  judgedThen = judgedPosts (postsDue (factsFor d .grid)) (factsFor d .grid .bytes .cell) (voidsAllowed (factsFor d)) zs room
+-- 10, 11, 12, or done, under any frame
+abbrev pub UnderRow : Frame → Given → ℕ → Outcome → Type 0
+UnderRow f g room = GivenRow (postsDue (f .grid)) (f .grid .bytes .cell) (f .voids) g room
 
+abbrev pub UnderFine : Frame → Given → ℕ → Type 0
+UnderFine f g room = Fine (postsDue (f .grid)) (f .grid .bytes .cell) (f .voids) g room
+
+module _ (f : Frame) (g : Given) (room : ℕ) where
+  pub given-under : (x : Outcome) → UnderRow f g room x → judgedUnder f g room ≡ x
+  unfolding judgedUnder
+  given-under = given-row _ _ (f .voids) g room
+
+  pub row-under : UnderRow f g room (judgedUnder f g room)
+  unfolding judgedUnder
+  row-under = row-given _ _ (f .voids) g room
+
+  pub under-fine : judgedUnder f g room ≡ Done → UnderFine f g room
+  unfolding judgedUnder
+  under-fine = given-fine _ _ (f .voids) g room
+
+module _ (d : Description) (g : Given) (room : ℕ) where
   -- 9 with the lowest item, then 10, 11, 12, or done
   abbrev pub CellRow : Outcome → Type 0
-  CellRow = ItemRow (itemTests d) (GivenRow (postsDue (factsFor d .grid)) (factsFor d .grid .bytes .cell) (voidsAllowed (factsFor d)) zs room)
+  CellRow = ItemRow (itemTests d) (UnderRow (frameFor d) g room)
 
   -- every row's answer is given
-  pub given : (x : Outcome) → CellRow x → judgedCell d zs room ≡ x
+  pub given : (x : Outcome) → CellRow x → judgedCell d g room ≡ x
   unfolding judgedCell
-  given = by-item.given (itemTests d) judgedThen _ (given-row _ _ (voidsAllowed (factsFor d)) zs room)
+  given = by-item.given (itemTests d) (judgedUnder (frameFor d) g room) _ (given-under (frameFor d) g room)
 
   -- and every answer is a row's
-  pub row : CellRow (judgedCell d zs room)
+  pub row : CellRow (judgedCell d g room)
   unfolding judgedCell
-  row = by-item.row (itemTests d) judgedThen _ (row-given _ _ (voidsAllowed (factsFor d)) zs room)
+  row = by-item.row (itemTests d) (judgedUnder (frameFor d) g room) _ (row-under (frameFor d) g room)
 
-  pub items-fine : badItem d ≡ 0 → judgedCell d zs room ≡ judgedThen
+  pub items-fine : badItem d ≡ 0 → judgedCell d g room ≡ judgedUnder (frameFor d) g room
   unfolding judgedCell
-  items-fine e = none-bad (badItem d) judgedThen e
-
-  -- the same, by the facts that were found
-  pub found-facts : (f : Facts) (voids : Bool) → badItem d ≡ 0 → f ≡ factsFor d → voids ≡ voidsAllowed f
-      → judgedPosts (postsDue (f .grid)) (f .grid .bytes .cell) voids zs room ≡ judgedCell d zs room
-  found-facts f voids e same v = rw (v, same) (sym (items-fine e))
+  items-fine e = none-bad (badItem d) (judgedUnder (frameFor d) g room) e
 
 -- what an accepted call was given
-pub record Ready (d : Description) (zs : List ℤ) (room : ℕ) : Type 0 where
+pub record Ready (d : Description) (g : Given) (room : ℕ) : Type 0 where
   pub ranged : inRange d ≡ true
-  pub fine : Fine (postsDue (factsFor d .grid)) (factsFor d .grid .bytes .cell) (voidsAllowed (factsFor d)) zs room
+  pub fine : UnderFine (frameFor d) g room
 
-pub ready : (d : Description) (zs : List ℤ) (room : ℕ) → judgedCell d zs room ≡ Done → Ready d zs room
+pub ready : (d : Description) (g : Given) (room : ℕ) → judgedCell d g room ≡ Done → Ready d g room
 unfolding judgedCell
-ready d zs room done =
-    let r = by-item.ready (itemTests d) (judgedThen d zs room) done in
-    record { ranged = r .0; fine = given-fine _ _ (voidsAllowed (factsFor d)) zs room (r .1) }
+ready d g room done =
+    let r = by-item.ready (itemTests d) (judgedUnder (frameFor d) g room) done in
+    record { ranged = r .0; fine = under-fine (frameFor d) g room (r .1) }

@@ -3,15 +3,17 @@ use Prim.Native.Nat.{ℕ, _+_, _*_}
 use mathlib.Core.Path.{_≡_, ap, _∙_}
 use mathlib.Core.Bool.{true}
 use Rattle.layout.specs.declared.Grid.{Grid}
-use Rattle.layout.proofs.Ranges.{Ranged, ranged}
+use Rattle.layout.specs.Ranges.{Ranged}
+use Rattle.layout.proofs.Ranges.{ranged}
 use Rattle.angles.specs.Angles.{edgeOf}
 use Rattle.describing.specs.Items.{inRange}
 use Rattle.describing.specs.Facts.{dueFor, factsFor}
 use Rattle.describing.specs.declared.Description.{Description}
+use Rattle.writing.specs.Cell.{frameFor}
 use Rattle.angles.proofs.NearEdges.{edge-below}
 use Rattle.describing.proofs.RangedItems.{ranged-items}
 
-pub due-ranged : (d : Description) → inRange d ≡ true → (g : Grid) → g ≡ factsFor d .grid → Ranged g
+pub due-ranged : (d : Description) → inRange d ≡ true → (g : Grid) → g ≡ frameFor d .grid → Ranged g
 unfolding factsFor dueFor
 due-ranged d e g due =
     let i = ranged-items d e in

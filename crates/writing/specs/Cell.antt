@@ -10,13 +10,15 @@ use Rattle.answers.specs.declared.Refusal.the-variants.{Item}
 use Rattle.answers.specs.declared.Outcome.{Outcome}
 use Rattle.answers.specs.declared.Outcome.the-variants.{Refused}
 use Rattle.layout.specs.declared.Grid.{Grid}
+use Rattle.layout.specs.declared.Frame.{Frame}
 use Rattle.describing.specs.Items.{badItem}
-use Rattle.headers.specs.Judged.{voidsAllowed}
+use Rattle.headers.specs.Judged.{frameOf}
 use Rattle.describing.specs.Facts.{factsFor}
 use Rattle.composing.specs.Written.{headersFor}
 use Rattle.describing.specs.declared.Description.{Description}
+use Rattle.sources.specs.Given.{Given, numbers}
 use Rattle.streaming.specs.Given.{judgedPosts, outputAfter}
-use Rattle.writing.specs.Grid.{afresh}
+use Rattle.cells.specs.Grid.{afresh}
 
 -- the posts of a grid, all its columns together
 abbrev pub postsDue : Grid → ℕ
@@ -26,18 +28,25 @@ postsDue g = g .columns * g .posts
 unfoldable pub afterItem : ℕ → Outcome → Outcome
 afterItem bad rest = pick (eqb bad 0) rest (Refused (Item bad))
 
--- W1: the order of the call, for an output of so many bytes
-unfoldable pub judgedCell : Description → List ℤ → ℕ → Outcome
-judgedCell d zs room =
-    afterItem (badItem d) (judgedPosts (postsDue (factsFor d .grid)) (factsFor d .grid .bytes .cell) (voidsAllowed (factsFor d)) zs room)
+-- the frame that headers written from a description give
+abbrev pub frameFor : Description → Frame
+frameFor d = frameOf (factsFor d)
+
+-- N10, N11, N12: under a frame, for an output of so many bytes
+unfoldable pub judgedUnder : Frame → Given → ℕ → Outcome
+judgedUnder f g room = judgedPosts (postsDue (f .grid)) (f .grid .bytes .cell) (f .voids) g room
+
+-- W1: the order of the call
+unfoldable pub judgedCell : Description → Given → ℕ → Outcome
+judgedCell d g room = afterItem (badItem d) (judgedUnder (frameFor d) g room)
 
 -- the cell of a description and a grid
 unfoldable pub cellOf : Description → List ℤ → List ℕ
-cellOf d zs = afresh (headersFor d) (factsFor d .grid) zs
+cellOf d zs = afresh (headersFor d) (frameFor d .grid) zs
 
 -- what is told of the call, and the output at its end
 unfoldable pub cellTold : Description → List ℤ → List ℕ → Told
-cellTold d zs out = told act (judgedCell d zs (length out))
+cellTold d zs out = told act (judgedCell d (numbers zs) (length out))
 
 unfoldable pub cellOutput : Description → List ℤ → List ℕ → List ℕ
-cellOutput d zs out = outputAfter (judgedCell d zs (length out)) (cellOf d zs) out
+cellOutput d zs out = outputAfter (judgedCell d (numbers zs) (length out)) (cellOf d zs) out

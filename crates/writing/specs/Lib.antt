@@ -1,3 +1,3 @@
--- What the cell writer judges, and what it writes.
-pub mod Grid
+-- What the cell writer judges and writes, and what functions ask.
 pub mod Cell
+pub mod Asked

@@ -1,14 +1,15 @@
-// The writer of a whole cell: headers from a description, then the columns of a grid of heights.
+// The writer of a whole cell: headers from a description, then the columns of what is given, from any source.
 ghost use mathlib.Core.Path.{_≡_};
 ghost use mathlib.Core.Bool.{true};
-ghost use mathlib.Core.List.{_++_};
-ghost use Prim.Native.Nat.{_+_, _*_, _≤_};
-ghost use lib.ListN.{length, drop};
+ghost use lib.ListN.{length};
 ghost use Rattle.answers.specs.Told as told;
+ghost use Rattle.answers.specs.declared.Outcome.the-variants.{Done};
+ghost use Rattle.cells.specs.Grid.{columnsWritten};
 ghost use Rattle.describing.specs.Items.{inRange};
-ghost use Rattle.describing.specs.Facts.{factsFor};
-ghost use Rattle.writing.specs.Grid.{columnsWritten};
-ghost use Rattle.writing.specs.Cell.{postsDue, judgedCell, cellOf, cellTold, cellOutput};
+ghost use Rattle.sources.specs.Given.{given, heightsOf};
+ghost use Rattle.streaming.specs.Given.{outputAfter};
+ghost use Rattle.writing.specs.Asked.{ColumnsFit, CellFits};
+ghost use Rattle.writing.specs.Cell.{frameFor, judgedUnder, cellOf, cellTold, cellOutput};
 use answers::Outcome;
 use answers::Refusal;
 use columns::write::put_column;
@@ -16,35 +17,23 @@ use composing::write::put_headers;
 use describing::Description;
 use describing::facts::facts_for;
 use describing::items::bad_item;
-use headers::judge::may_hold_voids;
+use headers::judge::frame_of;
 use layout::Grid;
 use layout::HEADER_BYTES;
+use sources::Source;
 use streaming::given::judge_posts;
 
-// Whether the cell may be written into so much room.
-fn judge(d: Description, heights: &[i16], room: usize) -> Outcome
-    ensures { λ r. ⌜ r ≡ judgedCell d (now (heights .entry)) room ⌝ }
-{
-    let item = bad_item(d);
-    if item != 0 {
-        return Outcome::Refused(Refusal::Item(item));
-    }
-    let facts = facts_for(d);
-    let grid = facts.grid;
-    let bytes = grid.bytes;
-    judge_posts(
-        heights,
-        may_hold_voids(facts),
-        grid.columns * grid.posts,
-        bytes.cell,
-        room,
-    )
-}
-
 // The columns of a grid, each from its part of the heights.
-fn put_columns(out: &mut [u8], columns: usize, posts: usize, heights: &[i16])
-    requires { ⌜ (length (now out) ≡ columns * (12 + 2 * posts)) × ((length (now heights) ≡ columns * posts) × ((columns ≤ 3601) × (posts ≤ 3601))) ⌝ }
-    ensures { λ _. ⌜ now (out .exit) ≡ columnsWritten posts (now (heights .entry)) columns ⌝ }
+fn put_columns(
+    out: &mut [u8],
+    columns: usize,
+    posts: usize,
+    source: Source,
+    numbers: &[i16],
+    bytes: &[u8],
+)
+    requires { ⌜ ColumnsFit (now out) columns posts (given source (now numbers) (now bytes)) ⌝ }
+    ensures { λ _. ⌜ now (out .exit) ≡ columnsWritten posts (heightsOf (given source (now (numbers .entry)) (now (bytes .entry)))) columns ⌝ }
 {
     let size = 12 + 2 * posts;
     let mut k = 0;
@@ -52,28 +41,67 @@ fn put_columns(out: &mut [u8], columns: usize, posts: usize, heights: &[i16])
     let mut from = 0;
     while k < columns {
         let next = at + size;
-        let to = from + posts;
-        put_column(&mut out[at..next], k, &heights[from..to]);
+        put_column(&mut out[at..next], k, source, numbers, bytes, from, posts);
         k += 1;
         at = next;
-        from = to;
+        from += posts;
     }
 }
 
 // The cell at the front of `out`; every byte past it stays.
-fn put_cell(out: &mut [u8], d: Description, grid: Grid, heights: &[i16])
-    requires { ⌜ (inRange d ≡ true) × ((grid ≡ factsFor d .grid) × ((length (now heights) ≡ postsDue grid) × (grid .bytes .cell ≤ length (now out)))) ⌝ }
-    ensures { λ _. ⌜ now (out .exit) ≡ cellOf d (now (heights .entry)) ++ drop (length (cellOf d (now (heights .entry)))) (now (out .entry)) ⌝ }
+fn put_cell(
+    out: &mut [u8],
+    d: Description,
+    grid: Grid,
+    source: Source,
+    numbers: &[i16],
+    bytes: &[u8],
+)
+    requires { ⌜ CellFits (now out) d grid (given source (now numbers) (now bytes)) ⌝ }
+    ensures { λ _. ⌜ now (out .exit) ≡ outputAfter Done (cellOf d (heightsOf (given source (now (numbers .entry)) (now (bytes .entry))))) (now (out .entry)) ⌝ }
 {
-    let bytes = grid.bytes;
-    let end = bytes.cell;
-    put_headers(out, d);
+    let lengths = grid.bytes;
+    let end = lengths.cell;
+    put_headers(out, d, grid);
     put_columns(
         &mut out[HEADER_BYTES..end],
         grid.columns,
         grid.posts,
-        heights,
+        source,
+        numbers,
+        bytes,
     );
+}
+
+// The cell of items in range and of what is given, at the front of `out`.
+pub fn write_under(
+    out: &mut [u8],
+    d: Description,
+    source: Source,
+    numbers: &[i16],
+    bytes: &[u8],
+) -> Outcome
+    requires { ⌜ inRange d ≡ true ⌝ }
+    ensures { λ r. ⌜ r ≡ judgedUnder (frameFor d) (given source (now (numbers .entry)) (now (bytes .entry))) (length (now (out .entry))) ⌝ }
+    ensures { λ _. ⌜ now (out .exit) ≡ outputAfter (judgedUnder (frameFor d) (given source (now (numbers .entry)) (now (bytes .entry))) (length (now (out .entry)))) (cellOf d (heightsOf (given source (now (numbers .entry)) (now (bytes .entry))))) (now (out .entry)) ⌝ }
+{
+    let frame = frame_of(facts_for(d));
+    let grid = frame.grid;
+    let lengths = grid.bytes;
+    let posts = grid.columns * grid.posts;
+    let judged = judge_posts(
+        source,
+        numbers,
+        bytes,
+        frame.voids,
+        posts,
+        lengths.cell,
+        out.len(),
+    );
+    if let Outcome::Done = judged {
+        put_cell(out, d, grid, source, numbers, bytes);
+    }
+    judged
 }
 
 // The cell of a description and a grid of heights, at the front of `out`; any items, any heights.
@@ -81,10 +109,9 @@ pub fn write(out: &mut [u8], d: Description, heights: &[i16]) -> Outcome
     ensures { λ r. ⌜ told.told told.act r ≡ cellTold d (now (heights .entry)) (now (out .entry)) ⌝ }
     ensures { λ _. ⌜ now (out .exit) ≡ cellOutput d (now (heights .entry)) (now (out .entry)) ⌝ }
 {
-    let judged = judge(d, heights, out.len());
-    if let Outcome::Done = judged {
-        let facts = facts_for(d);
-        put_cell(out, d, facts.grid, heights);
+    let item = bad_item(d);
+    if item != 0 {
+        return Outcome::Refused(Refusal::Item(item));
     }
-    judged
+    write_under(out, d, Source::Numbers, heights, &[])
 }

@@ -1,12 +1,11 @@
 -- `judge`: what is left of the words answers as the whole column.
 use Prim.Native.Nat.{_-_, _≤_}
-use Rattle.columns.proofs.WordSearch.{word-on, word-stop}
+use Rattle.columns.proofs.WordSearch.{word-on, word-stop, words-end}
 use Rattle.columns.proofs.judge.Statement.{statement}
 use Rattle.columns.proofs.judge.Tie as tie
 use Rattle.posts.specs.Words.{wordAllowed}
 use Rattle.columns.specs.Column.{wordIn}
 use Rattle.columns.specs.Judged.{wordsFrom, judgedColumn}
-use Rattle.octets.proofs.ScanLaws.{scan-done}
 use borrow.Author.Needs.{needs}
 use borrow.Author.Tests.{not-true, not-false}
 use mathlib.Core.Path.{_≡_, sym, _∙_}
@@ -58,7 +57,11 @@ add-t14 : tie.Need-add-t14 Inv-loop μ-loop
 add-t14 c = search needs
 
 returns-2 : tie.Need-returns-2 Inv-loop μ-loop
-returns-2 c = sym (word-stop _ _ _ _ _ (c .before .before .before .loop-test .taken) (found (c .before) ∙ not-true _ (c .if1 .taken))) ∙ c .before .before .before .before .loop .inv .1
+returns-2 c =
+    let l = c .before .before .before .before in
+    let a = l .before .before .before .before .before .args in
+    sym (word-stop (a .column .now) (a .voids) (a .base) (l .loop .i) (a .posts) (c .before .before .before .loop-test .taken) (found (c .before) ∙ not-true _ (c .if1 .taken)))
+    ∙ l .loop .inv .1
 
 add-i : tie.Need-add-i Inv-loop μ-loop
 add-i c = search needs
@@ -67,10 +70,19 @@ loop-less : tie.Need-loop-less Inv-loop μ-loop
 loop-less c = search needs
 
 loop-again : tie.Need-loop-again Inv-loop μ-loop
-loop-again c = (omega arith, sym (word-on _ _ _ _ _ (c .before .before .before .loop-test .taken) (found (c .before) ∙ not-false _ (c .if1 .left))) ∙ c .before .before .before .before .loop .inv .1)
+loop-again c =
+    let l = c .before .before .before .before in
+    let a = l .before .before .before .before .before .args in (
+      omega arith,
+      sym (word-on (a .column .now) (a .voids) (a .base) (l .loop .i) (a .posts) (c .before .before .before .loop-test .taken) (found (c .before) ∙ not-false _ (c .if1 .left)))
+          ∙ l .loop .inv .1,
+    )
 
 returns-3 : tie.Need-returns-3 Inv-loop μ-loop
-returns-3 c = sym (scan-done _ _ _ _ (c .loop-test .left)) ∙ c .before .loop .inv .1
+returns-3 c =
+    let l = c .before in
+    let a = l .before .before .before .before .before .args in
+    sym (words-end (a .column .now) (a .voids) (a .base) (l .loop .i) (a .posts) (c .loop-test .left)) ∙ l .loop .inv .1
 
 pub judge-spec : {M : Type 1} → statement M
 judge-spec =

@@ -4,7 +4,8 @@ use native.Mathlib.Omega.{arith}
 use borrow.Author.Needs.{needs}
 use Rattle.layout.specs.Grid.{gridOf}
 use Rattle.layout.specs.declared.Grid.{Grid}
-use Rattle.layout.proofs.Ranges.{Ranged, ranged, gridBy, grid-by, columns-fit, cell-fits}
+use Rattle.layout.specs.Ranges.{Ranged}
+use Rattle.layout.proofs.Ranges.{ranged, gridBy, grid-by, columns-fit, cell-fits}
 use Rattle.layout.proofs.grid_of.Statement.{statement}
 use Rattle.layout.proofs.grid_of.Tie as tie
 
@@ -21,7 +22,7 @@ module _ (c : tie.After-latitude-interval) where
       (c .latitude-interval .ensures)
 
   within : Ranged grid
-  within = rw due (ranged (start .args .level) (start .args .edge) (start .pre .0) (start .pre .1))
+  within = rw due (ranged (start .args .level) (start .args .edge) (start .pre .level) (start .pre .edge))
 
 factor-requires : tie.Need-factor-requires
 factor-requires c κs = search needs

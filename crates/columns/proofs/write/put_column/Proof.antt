@@ -3,10 +3,12 @@ use Prim.Native.Nat.{ℕ, _+_, _*_}
 use Rattle.columns.proofs.WrittenColumn.{column-put}
 use Rattle.columns.proofs.write.put_column.Statement.{statement}
 use Rattle.columns.proofs.write.put_column.Tie as tie
-use Rattle.columns.specs.Column.{preamble, wordsOf}
-use Rattle.octets.specs.Numbers.{bytesOf}
+use Rattle.columns.specs.Column.{preamble}
+use Rattle.octets.proofs.JoinedLaws.{length-listed}
+use Rattle.octets.specs.Numbers.{bytesOf, bytesOfWords}
 use Rattle.octets.specs.Pastes.{pasted}
 use Rattle.octets.specs.Sums.{sumOf}
+use Rattle.sources.specs.Given.{Given, given, wordsGiven}
 use borrow.Author.Needs.{needs}
 use lib.ListN.{length, take}
 use lib.Seq.{length-take-le}
@@ -16,18 +18,19 @@ use native.Mathlib.Omega.{arith}
 
 module _ (c : tie.After-put-words) where
   abbrev start : tie.Start
-  start = c .before .before .before .before .before .before .before
+  start = c .before .before .before .before .before .before .before .before
+
+  abbrev words : List ℕ
+  words = wordsGiven (given (start .args .source) (start .args .numbers .now) (start .args .bytes .now)) (start .args .first) (start .args .posts)
 
   words-long : length (c .put-words .last .0) ≡ length (start .args .out .now)
   words-long = c .put-words .kept .0 ∙ c .before .before .before .before .put-preamble .kept .0
 
-  words-put : c .put-words .last .0 ≡ pasted (pasted (start .args .out .now) 0 (preamble (start .args .number))) 8 (wordsOf (start .args .heights .now))
-  words-put =
-      c .put-words .ensures
-      ∙ ap (λ (l : List ℕ). pasted l 8 (wordsOf (start .args .heights .now))) (c .before .before .before .before .put-preamble .ensures)
+  words-put : c .put-words .last .0 ≡ pasted (pasted (start .args .out .now) 0 (preamble (start .args .number))) 8 (bytesOfWords words)
+  words-put = c .put-words .ensures ∙ ap (λ (l : List ℕ). pasted l 8 (bytesOfWords words)) (c .before .before .before .before .put-preamble .ensures)
 
-  sum-long : length (take (8 + 2 * length (start .args .heights .now)) (c .put-words .last .0)) ≡ 8 + 2 * length (start .args .heights .now)
-  sum-long = length-take-le _ _ (omega (arith, words-long, start .pre .0))
+  sum-long : length (take (8 + 2 * start .args .posts) (c .put-words .last .0)) ≡ 8 + 2 * start .args .posts
+  sum-long = length-take-le _ _ (omega (arith, words-long, start .pre .long))
 
 put-preamble-requires : tie.Need-put-preamble-requires
 put-preamble-requires c κs = search needs
@@ -48,7 +51,7 @@ slice-aggregate-sum : tie.Need-slice-aggregate-sum
 slice-aggregate-sum c = sym (sum-long (c .before .before .before))
 
 sum-requires : tie.Need-sum-requires
-sum-requires c κs = let w = c .before .before .before in omega (arith, sum-long w, start w .pre .1 .0)
+sum-requires c κs = let w = c .before .before .before in omega (arith, sum-long w, start w .pre .few)
 
 put32-requires : tie.Need-put32-requires
 put32-requires c κs = search needs
@@ -62,10 +65,10 @@ returns c =
     let s = q .before .before in
     let w = s .before .before .before .before in
     let a = start w .args in
-    let end = 8 + 2 * length (a .heights .now) in
+    let end = 8 + 2 * a .posts in
     q .put32 .ensures
     ∙ ap (λ (l : List ℕ). pasted l end (bytesOf 4 (s .sum .result))) (words-put w)
-    ∙ column-put (a .out .now) (a .number) (a .heights .now) (start w .pre .0) (s .sum .result)
+    ∙ column-put (a .out .now) (a .number) (words w) (a .posts) (length-listed _ (a .posts)) (start w .pre .long) (s .sum .result)
     (s .sum .ensures ∙ ap (λ (l : List ℕ). sumOf (take end l)) (words-put w))
 
 pub put-column-spec : {M : Type 1} → statement M

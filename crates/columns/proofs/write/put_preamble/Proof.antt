@@ -47,7 +47,7 @@ returns c =
     t .put162 .ensures
     ∙ ap (λ (l : List ℕ). pasted l 6 (bytesOf 2 0))
     (s .put16 .ensures ∙ ap (λ (l : List ℕ). pasted l 4 (bytesOf 2 (a .number))) (f .put24 .ensures))
-    ∙ preamble-put (a .out .now) (a .number) (f .before .before .before .pre .0)
+    ∙ preamble-put (a .out .now) (a .number) (f .before .before .before .pre .room)
 
 pub put-preamble-spec : {M : Type 1} → statement M
 put-preamble-spec =

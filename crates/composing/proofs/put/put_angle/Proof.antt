@@ -34,12 +34,13 @@ same-length c = simp length-set (c .before .before .before .paste .kept .0 ∙ c
 returns : tie.Need-returns
 unfolding angleText
 returns c =
-    let a = c .before .before .before .before .before .before .before .before .before .before .before .before .args in
+    let start = c .before .before .before .before .before .before .before .before .before .before .before .before in
+    let a = start .args in
     let n = a .digits in
     let zs = a .zeros .now in
     let v = degreesOf (a .axis) (a .angle) in
     rw (c .letter .ensures, c .before .before .before .paste .ensures, c .before .before .before .before .before .before .before .put-digits .ensures, c .before .before .before .before .before .before .before .before .degrees .ensures)
-    (put-three (a .field .now) (digitsOf n v) zs n (length-digits n v) (letterOf (a .axis) (a .angle)) (c .before .before .before .before .before .before .before .before .before .before .before .before .pre))
+    (put-three (a .field .now) (digitsOf n v) zs n (length-digits n v) (letterOf (a .axis) (a .angle)) (start .pre))
 
 pub put-angle-spec : {M : Type 1} → statement M
 put-angle-spec =

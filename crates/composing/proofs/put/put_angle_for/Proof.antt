@@ -3,6 +3,10 @@ use Rattle.composing.proofs.put.put_angle_for.Statement.{statement}
 use Rattle.composing.proofs.put.put_angle_for.Tie as tie
 use Rattle.describing.specs.Facts.{dueFor}
 use borrow.Author.Needs.{needs}
+use mathlib.Core.Path.{ap}
+use native.Mathlib.Omega.{arith}
+use Rattle.rules.specs.Rules.{widthOf}
+use Rattle.fields.specs.declared.Kind.the-variants.{At}
 
 enum-told : tie.Need-enum-told
 enum-told c = search needs
@@ -11,7 +15,7 @@ slice-aggregate-put-angle : tie.Need-slice-aggregate-put-angle
 slice-aggregate-put-angle c = search needs
 
 put-angle-requires : tie.Need-put-angle-requires
-put-angle-requires c κs = rw (c .before .before .enum-told .given .1) at (c .before .before .before .before .before .pre .0)
+put-angle-requires c κs = omega (arith, ap (λ a. widthOf (At a)) (c .before .before .enum-told .given .1))
 
 enum-told-2 : tie.Need-enum-told-2
 enum-told-2 c = search needs
@@ -20,7 +24,7 @@ slice-aggregate-put-angle-2 : tie.Need-slice-aggregate-put-angle-2
 slice-aggregate-put-angle-2 c = search needs
 
 put-angle-requires-2 : tie.Need-put-angle-requires-2
-put-angle-requires-2 c κs = rw (c .before .before .enum-told2 .given .1) at (c .before .before .before .before .before .pre .0)
+put-angle-requires-2 c κs = omega (arith, ap (λ a. widthOf (At a)) (c .before .before .enum-told2 .given .1))
 
 enum-told-3 : tie.Need-enum-told-3
 enum-told-3 c = search needs
@@ -29,7 +33,7 @@ slice-aggregate-put-angle-3 : tie.Need-slice-aggregate-put-angle-3
 slice-aggregate-put-angle-3 c = search needs
 
 put-angle-requires-3 : tie.Need-put-angle-requires-3
-put-angle-requires-3 c κs = rw (c .before .before .enum-told3 .given .1) at (c .before .before .before .before .before .pre .0)
+put-angle-requires-3 c κs = omega (arith, ap (λ a. widthOf (At a)) (c .before .before .enum-told3 .given .1))
 
 enum-told-4 : tie.Need-enum-told-4
 enum-told-4 c = search needs
@@ -38,7 +42,7 @@ slice-aggregate-put-angle-4 : tie.Need-slice-aggregate-put-angle-4
 slice-aggregate-put-angle-4 c = search needs
 
 put-angle-requires-4 : tie.Need-put-angle-requires-4
-put-angle-requires-4 c κs = rw (c .before .before .enum-told4 .given .1) at (c .before .before .before .before .before .pre .0)
+put-angle-requires-4 c κs = omega (arith, ap (λ a. widthOf (At a)) (c .before .before .enum-told4 .given .1))
 
 enum-told-5 : tie.Need-enum-told-5
 enum-told-5 c = search needs
@@ -47,7 +51,7 @@ slice-aggregate-put-angle-5 : tie.Need-slice-aggregate-put-angle-5
 slice-aggregate-put-angle-5 c = search needs
 
 put-angle-requires-5 : tie.Need-put-angle-requires-5
-put-angle-requires-5 c κs = rw (c .before .before .enum-told5 .given .1) at (c .before .before .before .before .before .pre .0)
+put-angle-requires-5 c κs = omega (arith, ap (λ a. widthOf (At a)) (c .before .before .enum-told5 .given .1))
 
 enum-told-6 : tie.Need-enum-told-6
 enum-told-6 c = search needs
@@ -59,7 +63,7 @@ add-put-angle : tie.Need-add-put-angle
 add-put-angle c = search needs
 
 put-angle-requires-6 : tie.Need-put-angle-requires-6
-put-angle-requires-6 c κs = rw (c .before .before .before .enum-told6 .given .1) at (c .before .before .before .before .before .before .pre .0)
+put-angle-requires-6 c κs = omega (arith, ap (λ a. widthOf (At a)) (c .before .before .before .enum-told6 .given .1))
 
 enum-told-7 : tie.Need-enum-told-7
 enum-told-7 c = search needs
@@ -68,7 +72,7 @@ slice-aggregate-put-angle-7 : tie.Need-slice-aggregate-put-angle-7
 slice-aggregate-put-angle-7 c = search needs
 
 put-angle-requires-7 : tie.Need-put-angle-requires-7
-put-angle-requires-7 c κs = rw (c .before .before .enum-told7 .given .1) at (c .before .before .before .before .before .pre .0)
+put-angle-requires-7 c κs = omega (arith, ap (λ a. widthOf (At a)) (c .before .before .enum-told7 .given .1))
 
 enum-told-8 : tie.Need-enum-told-8
 enum-told-8 c = search needs
@@ -80,7 +84,7 @@ add-put-angle-2 : tie.Need-add-put-angle-2
 add-put-angle-2 c = search needs
 
 put-angle-requires-8 : tie.Need-put-angle-requires-8
-put-angle-requires-8 c κs = rw (c .before .before .before .enum-told8 .given .1) at (c .before .before .before .before .before .before .pre .0)
+put-angle-requires-8 c κs = omega (arith, ap (λ a. widthOf (At a)) (c .before .before .before .enum-told8 .given .1))
 
 same-length : tie.Need-same-length
 same-length c = search needs

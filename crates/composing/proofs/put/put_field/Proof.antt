@@ -1,18 +1,19 @@
 -- `put_field`: arm by arm.
 use Rattle.composing.proofs.put.put_field.Statement.{statement}
 use Rattle.composing.proofs.put.put_field.Tie as tie
-use Rattle.rules.specs.Rules.{numberOf}
+use Rattle.rules.specs.Rules.{numberOf, widthOf}
 use Rattle.composing.specs.Written.{accuracyText, textFor}
 use Rattle.layout.specs.declared.Grid.{Grid}
 use Rattle.octets.specs.Digits.{digitsOf}
 use borrow.Author.Needs.{needs}
 use mathlib.Core.Path.{ap, _∙_}
+use native.Mathlib.Omega.{arith}
 
 enum-known-kind : tie.Need-enum-known-kind
 enum-known-kind c = search needs
 
 put-text-requires : tie.Need-put-text-requires
-put-text-requires c κs = rw (c .before .before .kind .given .1) at (c .before .before .before .before .before .before .pre .0)
+put-text-requires c κs = omega (arith, ap widthOf (c .before .before .kind .given .1))
 
 enum-known-kind-2 : tie.Need-enum-known-kind-2
 enum-known-kind-2 c = search needs
@@ -21,13 +22,13 @@ number-requires : tie.Need-number-requires
 number-requires c κs = search needs
 
 put-number-requires : tie.Need-put-number-requires
-put-number-requires c κs = rw (c .before .before .before .kind2 .given .1) at (c .before .before .before .before .before .before .before .pre .0)
+put-number-requires c κs = omega (arith, ap widthOf (c .before .before .before .kind2 .given .1))
 
 enum-known-kind-3 : tie.Need-enum-known-kind-3
 enum-known-kind-3 c = search needs
 
 put-angle-for-requires : tie.Need-put-angle-for-requires
-put-angle-for-requires c κs = (rw (c .before .before .kind3 .given .1) at (c .before .before .before .before .before .before .pre .0), c .before .before .before .before .before .before .pre .1 .1)
+put-angle-for-requires c κs = omega (arith, ap widthOf (c .before .before .kind3 .given .1))
 
 enum-known-kind-4 : tie.Need-enum-known-kind-4
 enum-known-kind-4 c = search needs
@@ -36,19 +37,19 @@ accuracy-for-requires : tie.Need-accuracy-for-requires
 accuracy-for-requires c κs = search needs
 
 put-accuracy-requires : tie.Need-put-accuracy-requires
-put-accuracy-requires c κs = rw (c .before .before .before .kind4 .given .1) at (c .before .before .before .before .before .before .before .pre .0)
+put-accuracy-requires c κs = omega (arith, ap widthOf (c .before .before .before .kind4 .given .1))
 
 enum-told : tie.Need-enum-told
 enum-told c = search needs
 
 put-number-requires-2 : tie.Need-put-number-requires-2
-put-number-requires-2 c κs = rw (c .before .enum-told .given .1) at (c .before .before .before .before .before .pre .0)
+put-number-requires-2 c κs = omega (arith, ap widthOf (c .before .enum-told .given .1))
 
 enum-told-2 : tie.Need-enum-told-2
 enum-told-2 c = search needs
 
 put-security-requires : tie.Need-put-security-requires
-put-security-requires c κs = rw (c .before .enum-told2 .given .1) at (c .before .before .before .before .before .pre .0)
+put-security-requires c κs = omega (arith, ap widthOf (c .before .enum-told2 .given .1))
 
 enum-told-3 : tie.Need-enum-told-3
 enum-told-3 c = search needs
@@ -57,19 +58,19 @@ slice-aggregate-put : tie.Need-slice-aggregate-put
 slice-aggregate-put c = search needs
 
 put-requires : tie.Need-put-requires
-put-requires c κs = rw (c .before .before .enum-told3 .given .1) at (c .before .before .before .before .before .before .pre .0)
+put-requires c κs = omega (arith, ap widthOf (c .before .before .enum-told3 .given .1))
 
 enum-told-4 : tie.Need-enum-told-4
 enum-told-4 c = search needs
 
 put-series-requires : tie.Need-put-series-requires
-put-series-requires c κs = rw (c .before .enum-told4 .given .1) at (c .before .before .before .before .before .pre .0)
+put-series-requires c κs = omega (arith, ap widthOf (c .before .enum-told4 .given .1))
 
 enum-told-5 : tie.Need-enum-told-5
 enum-told-5 c = search needs
 
 put-number-requires-3 : tie.Need-put-number-requires-3
-put-number-requires-3 c κs = rw (c .before .enum-told5 .given .1) at (c .before .before .before .before .before .pre .0)
+put-number-requires-3 c κs = omega (arith, ap widthOf (c .before .enum-told5 .given .1))
 
 enum-told-6 : tie.Need-enum-told-6
 enum-told-6 c = search needs
@@ -78,19 +79,19 @@ slice-aggregate-put-2 : tie.Need-slice-aggregate-put-2
 slice-aggregate-put-2 c = search needs
 
 put-requires-2 : tie.Need-put-requires-2
-put-requires-2 c κs = rw (c .before .before .enum-told6 .given .1) at (c .before .before .before .before .before .before .pre .0)
+put-requires-2 c κs = omega (arith, ap widthOf (c .before .before .enum-told6 .given .1))
 
 enum-told-7 : tie.Need-enum-told-7
 enum-told-7 c = search needs
 
 put-datum-requires : tie.Need-put-datum-requires
-put-datum-requires c κs = rw (c .before .enum-told7 .given .1) at (c .before .before .before .before .before .pre .0)
+put-datum-requires c κs = omega (arith, ap widthOf (c .before .enum-told7 .given .1))
 
 enum-told-8 : tie.Need-enum-told-8
 enum-told-8 c = search needs
 
 put-number-requires-4 : tie.Need-put-number-requires-4
-put-number-requires-4 c κs = rw (c .before .enum-told8 .given .1) at (c .before .before .before .before .before .pre .0)
+put-number-requires-4 c κs = omega (arith, ap widthOf (c .before .enum-told8 .given .1))
 
 same-length : tie.Need-same-length
 same-length c = search needs
@@ -105,8 +106,9 @@ same-length-2 c = search needs
 returns-2 : tie.Need-returns-2
 unfolding textFor
 returns-2 c =
-    let n = c .before .before .before .before .before .before .kind2 .given in
-    rw (n .1) (c .before .before .put-number .ensures ∙ ap (digitsOf 4) (c .before .before .before .number .ensures ∙ ap (numberOf (n .0 .0)) (c .before .before .before .before .before .before .before .before .before .before .pre .1 .0)))
+    let k = c .before .before .before .before .before .before in
+    let n = k .kind2 .given in
+    rw (n .1) (c .before .before .put-number .ensures ∙ ap (digitsOf 4) (c .before .before .before .number .ensures ∙ ap (numberOf (n .0 .0)) (k .before .before .before .before .pre .grid)))
 
 same-length-3 : tie.Need-same-length-3
 same-length-3 c = search needs
@@ -127,7 +129,7 @@ same-length-5 c = search needs
 
 returns-5 : tie.Need-returns-5
 unfolding textFor
-returns-5 c = rw (c .before .before .before .before .enum-told .given .1) (c .before .before .put-number2 .ensures ∙ ap (λ (g : Grid). digitsOf 4 (g .interval .latitude)) (c .before .before .before .before .before .before .before .before .pre .1 .0))
+returns-5 c = let k = c .before .before .before .before in rw (k .enum-told .given .1) (c .before .before .put-number2 .ensures ∙ ap (λ (g : Grid). digitsOf 4 (g .interval .latitude)) (k .before .before .before .before .pre .grid))
 
 same-length-6 : tie.Need-same-length-6
 same-length-6 c = search needs

@@ -18,12 +18,12 @@ paste-requires : tie.Need-paste-requires
 paste-requires c κs = simp length-set (omega arith)
 
 same-length : tie.Need-same-length
-same-length c = c .before .before .paste .kept .0 ∙ length-set (c .before .before .before .before .before .before .args .field .now) 0 (c .before .before .before .before .before .before .args .letter)
+same-length c = let a = c .before .before .before .before .before .before .args in c .before .before .paste .kept .0 ∙ length-set (a .field .now) 0 (a .letter)
 
 returns : tie.Need-returns
 returns c =
-    let a = c .before .before .before .before .before .before .args in
-    c .before .before .paste .ensures ∙ put-byte (a .field .now) (a .letter) (ascii "  ") (c .before .before .before .before .before .before .pre)
+    let start = c .before .before .before .before .before .before in
+    c .before .before .paste .ensures ∙ put-byte (start .args .field .now) (start .args .letter) (ascii "  ") (start .pre)
 
 pub put-security-spec : {M : Type 1} → statement M
 put-security-spec =

@@ -26,10 +26,10 @@ same-length c = search needs
 
 returns : tie.Need-returns
 returns c =
-    let a = c .before .before .before .before .before .before .before .before .before .before .args in
+    let start = c .before .before .before .before .before .before .before .before .before .before in
     c .before .before .put-digits .ensures
-    ∙ ap (λ (l : List ℕ). pasted l 4 (digitsOf 1 (a .level))) (c .before .before .before .before .before .before .paste .ensures)
-    ∙ put-two (a .field .now) (ascii "DTED") (digitsOf 1 (a .level)) 4 (omega arith) (omega (arith, length-digits 1 (a .level), c .before .before .before .before .before .before .before .before .before .before .pre))
+    ∙ ap (λ (l : List ℕ). pasted l 4 (digitsOf 1 (start .args .level))) (c .before .before .before .before .before .before .paste .ensures)
+    ∙ put-two (start .args .field .now) (ascii "DTED") (digitsOf 1 (start .args .level)) 4 (omega arith) (omega (arith, length-digits 1 (start .args .level), start .pre))
 
 pub put-series-spec : {M : Type 1} → statement M
 put-series-spec =

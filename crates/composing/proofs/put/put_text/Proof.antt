@@ -2,6 +2,10 @@
 use Rattle.composing.proofs.put.put_text.Statement.{statement}
 use Rattle.composing.proofs.put.put_text.Tie as tie
 use borrow.Author.Needs.{needs}
+use mathlib.Core.Path.{ap}
+use native.Mathlib.Omega.{arith}
+use Rattle.rules.specs.Rules.{widthOf}
+use Rattle.fields.specs.declared.Kind.the-variants.{Fixed}
 
 enum-told : tie.Need-enum-told
 enum-told c = search needs
@@ -10,7 +14,7 @@ slice-aggregate-put : tie.Need-slice-aggregate-put
 slice-aggregate-put c = search needs
 
 put-requires : tie.Need-put-requires
-put-requires c κs = rw (c .before .before .enum-told .given .1) at (c .before .before .before .before .before .pre)
+put-requires c κs = omega (arith, ap (λ t. widthOf (Fixed t)) (c .before .before .enum-told .given .1))
 
 enum-told-2 : tie.Need-enum-told-2
 enum-told-2 c = search needs
@@ -19,7 +23,7 @@ slice-aggregate-put-2 : tie.Need-slice-aggregate-put-2
 slice-aggregate-put-2 c = search needs
 
 put-requires-2 : tie.Need-put-requires-2
-put-requires-2 c κs = rw (c .before .before .enum-told2 .given .1) at (c .before .before .before .before .before .pre)
+put-requires-2 c κs = omega (arith, ap (λ t. widthOf (Fixed t)) (c .before .before .enum-told2 .given .1))
 
 enum-told-3 : tie.Need-enum-told-3
 enum-told-3 c = search needs
@@ -28,7 +32,7 @@ slice-aggregate-put-3 : tie.Need-slice-aggregate-put-3
 slice-aggregate-put-3 c = search needs
 
 put-requires-3 : tie.Need-put-requires-3
-put-requires-3 c κs = rw (c .before .before .enum-told3 .given .1) at (c .before .before .before .before .before .pre)
+put-requires-3 c κs = omega (arith, ap (λ t. widthOf (Fixed t)) (c .before .before .enum-told3 .given .1))
 
 enum-told-4 : tie.Need-enum-told-4
 enum-told-4 c = search needs
@@ -37,7 +41,7 @@ slice-aggregate-put-4 : tie.Need-slice-aggregate-put-4
 slice-aggregate-put-4 c = search needs
 
 put-requires-4 : tie.Need-put-requires-4
-put-requires-4 c κs = rw (c .before .before .enum-told4 .given .1) at (c .before .before .before .before .before .pre)
+put-requires-4 c κs = omega (arith, ap (λ t. widthOf (Fixed t)) (c .before .before .enum-told4 .given .1))
 
 enum-told-5 : tie.Need-enum-told-5
 enum-told-5 c = search needs
@@ -46,7 +50,7 @@ slice-aggregate-put-5 : tie.Need-slice-aggregate-put-5
 slice-aggregate-put-5 c = search needs
 
 put-requires-5 : tie.Need-put-requires-5
-put-requires-5 c κs = rw (c .before .before .enum-told5 .given .1) at (c .before .before .before .before .before .pre)
+put-requires-5 c κs = omega (arith, ap (λ t. widthOf (Fixed t)) (c .before .before .enum-told5 .given .1))
 
 enum-told-6 : tie.Need-enum-told-6
 enum-told-6 c = search needs
@@ -55,7 +59,7 @@ slice-aggregate-put-6 : tie.Need-slice-aggregate-put-6
 slice-aggregate-put-6 c = search needs
 
 put-requires-6 : tie.Need-put-requires-6
-put-requires-6 c κs = rw (c .before .before .enum-told6 .given .1) at (c .before .before .before .before .before .pre)
+put-requires-6 c κs = omega (arith, ap (λ t. widthOf (Fixed t)) (c .before .before .enum-told6 .given .1))
 
 enum-told-7 : tie.Need-enum-told-7
 enum-told-7 c = search needs
@@ -64,7 +68,7 @@ slice-aggregate-put-7 : tie.Need-slice-aggregate-put-7
 slice-aggregate-put-7 c = search needs
 
 put-requires-7 : tie.Need-put-requires-7
-put-requires-7 c κs = rw (c .before .before .enum-told7 .given .1) at (c .before .before .before .before .before .pre)
+put-requires-7 c κs = omega (arith, ap (λ t. widthOf (Fixed t)) (c .before .before .enum-told7 .given .1))
 
 enum-told-8 : tie.Need-enum-told-8
 enum-told-8 c = search needs
@@ -73,7 +77,7 @@ slice-aggregate-put-8 : tie.Need-slice-aggregate-put-8
 slice-aggregate-put-8 c = search needs
 
 put-requires-8 : tie.Need-put-requires-8
-put-requires-8 c κs = rw (c .before .before .enum-told8 .given .1) at (c .before .before .before .before .before .pre)
+put-requires-8 c κs = omega (arith, ap (λ t. widthOf (Fixed t)) (c .before .before .enum-told8 .given .1))
 
 same-length : tie.Need-same-length
 same-length c = search needs

@@ -22,7 +22,7 @@ within : (c : tie.After-row Inv-loop μ-loop) → Row (c .row .result)
 within c = rw (c .row .ensures) (row (c .before .before .loop .i) (omega arith))
 
 loop-holds : tie.Need-loop-holds Inv-loop μ-loop
-loop-holds c = (omega arith, (c .before .pre .0, refl))
+loop-holds c = (omega arith, (c .before .pre .wide, refl))
 
 row-requires : tie.Need-row-requires Inv-loop μ-loop
 row-requires c κs = search needs
@@ -43,7 +43,9 @@ put-field-requires : tie.Need-put-field-requires Inv-loop μ-loop
 put-field-requires c κs =
     let f = c .before .before .row .result in
     let r = within (c .before .before) in
-    (length-part (c .before .before .before .before .loop .head) (f .0) (f .0 + f .1) (omega arith) (omega (arith, r .within)) ∙ omega (arith, r .wide), c .before .before .before .before .before .before .pre .1)
+    let wide = length-part (c .before .before .before .before .loop .head) (f .0) (f .0 + f .1) (omega arith) (omega (arith, r .within)) in
+    let asked = c .before .before .before .before .before .before .pre in
+    record { wide = omega arith; grid = asked .grid; origin = asked .origin }
 
 add-i : tie.Need-add-i Inv-loop μ-loop
 add-i c = search needs
@@ -59,7 +61,7 @@ loop-again c =
     (omega arith, (t .0, t .1 ∙ l .loop .inv .1 .1))
 
 same-length : tie.Need-same-length Inv-loop μ-loop
-same-length c = c .before .loop .inv .1 .0 ∙ sym (c .before .before .before .pre .0)
+same-length c = c .before .loop .inv .1 .0 ∙ sym (c .before .before .before .pre .wide)
 
 returns : tie.Need-returns Inv-loop μ-loop
 returns c =

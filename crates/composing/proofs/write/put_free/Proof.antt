@@ -29,8 +29,9 @@ same-length c = search needs
 returns : tie.Need-returns
 unfolding freeBytes
 returns c =
-    let head = c .before .before .before .before .before .before .before .before .before .before .before .before .before .before .args .head .now in
-    let blank = c .before .before .before .before .before .before .before .before .before .before .before .fill .ensures ∙ paste-all head (replicate 3428 32) (length-replicate {A = ℕ} 3428 32 ∙ sym (c .before .before .before .before .before .before .before .before .before .before .before .before .before .before .pre)) in
+    let fill = c .before .before .before .before .before .before .before .before .before .before .before in
+    let start = fill .before .before .before in
+    let blank = fill .fill .ensures ∙ paste-all (start .args .head .now) (replicate 3428 32) (length-replicate {A = ℕ} 3428 32 ∙ sym (start .pre)) in
     c .before .before .paste .ensures
     ∙ ap (λ (s : List ℕ). pasted s 217 (ascii "0005")) (c .before .before .before .before .before .before .before .put-areas .ensures ∙ ap (λ (s : List ℕ). withAreas s areas) blank)
 

@@ -1,18 +1,16 @@
 -- `edit`: the post that is reached, then its height, then its column lent and stored in.
-use Rattle.answers.specs.Told.{told, act}
 use Rattle.storing.specs.Stored.{stored}
-use Rattle.editing.proofs.EditBy.{not-reached, height-refused, height-stored}
 use Rattle.editing.proofs.SpotReached.{SpotOf, spot-reached, lent, can-store, stored-back}
 use Rattle.editing.proofs.edit.edit.Statement.{statement}
 use Rattle.editing.proofs.edit.edit.Tie as tie
-use Rattle.editing.specs.Edit.{editTold}
+use Rattle.editing.specs.Edit.{editTold, judgedEdit, edited}
 use Rattle.posts.specs.Heights.{heightAllowed, wordOf}
 use Rattle.reaching.specs.Reach.{reached}
 use Rattle.reaching.specs.declared.reach.Reached.the-variants.{At}
 use Rattle.reaching.specs.declared.reach.Spot.{Spot}
 use borrow.Author.Needs.{needs}
 use borrow.Author.Tests.{not-true, not-false}
-use mathlib.Core.Path.{_≡_, sym, ap, _∙_}
+use mathlib.Core.Path.{_≡_, refl, sym, ap, _∙_}
 use mir.Facts.{toZ-ofZ}
 use mir.Syntax.{w64}
 use mir.Val.{toZ, ofZ}
@@ -53,11 +51,8 @@ same-length : tie.Need-same-length
 same-length c = search needs
 
 returns : tie.Need-returns
-unfolding editTold
-returns c =
-    let k = c .before .before in
-    let by = height-refused _ _ _ _ (spot k) (found k) (allowed (c .before) ∙ not-true _ (c .if1 .taken)) in
-    (ap (told act) (sym (by .0)), sym (by .1))
+unfolding editTold judgedEdit edited
+returns c = rw (found (c .before .before), allowed (c .before) ∙ not-true _ (c .if1 .taken)) (refl, refl)
 
 word-of-requires : tie.Need-word-of-requires
 word-of-requires c κs = search needs
@@ -90,29 +85,25 @@ same-length-2 : tie.Need-same-length-2
 same-length-2 c = search needs
 
 returns-2 : tie.Need-returns-2
-unfolding editTold
+unfolding editTold judgedEdit edited
 returns-2 c =
     let q = c .before .before in
     let w = q .before .before in
     let k = w .before .before .before in
     let a = start k .args in
-    let by = height-stored _ _ _ _ (spot k) (found k) (allowed (w .before .before) ∙ not-false _ (w .before .if1 .left)) in
-    let word : w .word-of .result ≡ wordOf (a .height) = w .word-of .ensures ∙ ap wordOf (height-is k) in (
-      ap (told act) (sym (by .0)),
+    let word : w .word-of .result ≡ wordOf (a .height) = w .word-of .ensures ∙ ap wordOf (height-is k) in
+    rw (found k, allowed (w .before .before) ∙ not-false _ (w .before .if1 .left)) (
+      refl,
       stored-back _ _ _ (spot k) (at k) (a .height) (q .store .last .0)
-          (q .store .ensures ∙ ap (stored (lent (a .cell .now) (a .column) (a .post) (spot k) (at k)) (spot k .posts) (a .post)) word)
-          ∙ sym (by .1),
+          (q .store .ensures ∙ ap (stored (lent (a .cell .now) (a .column) (a .post) (spot k) (at k)) (spot k .posts) (a .post)) word),
     )
 
 same-length-3 : tie.Need-same-length-3
 same-length-3 c = search needs
 
 returns-3 : tie.Need-returns-3
-unfolding editTold
-returns-3 c =
-    let r = c .before .before .before in
-    let by = not-reached _ _ _ _ _ (sym (r .reach .ensures) ∙ c .before .reached2 .given .1) in
-    (ap (told act) (sym (by .0)), sym (by .1))
+unfolding editTold judgedEdit edited
+returns-3 c = rw (sym (c .before .before .before .reach .ensures) ∙ c .before .reached2 .given .1) (refl, refl)
 
 pub edit-spec : {M : Type 1} → statement M
 edit-spec =

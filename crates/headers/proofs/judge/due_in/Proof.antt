@@ -44,10 +44,11 @@ grid-of-requires : tie.Need-grid-of-requires
 unfolding originAt
 grid-of-requires c κs =
     let o = c .before .before .before in
-    let start = o .before .before .before .before .before in (
-      rw (c .before .level-at .ensures) (level-below (start .args .s .now)),
-      rw (c .near-edge .ensures, o .before .before .origin .ensures) (edge-below (originAt northward (start .args .s .now) 12) (start .pre .1)),
-    )
+    let start = o .before .before .before .before .before in
+    record {
+      level = rw (c .before .level-at .ensures) (level-below (start .args .s .now));
+      edge = rw (c .near-edge .ensures, o .before .before .origin .ensures) (edge-below (originAt northward (start .args .s .now) 12) (start .pre .latitude));
+    }
 
 returns : tie.Need-returns
 unfolding dueIn originAt

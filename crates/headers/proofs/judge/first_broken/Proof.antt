@@ -46,7 +46,7 @@ keeps-requires c κs =
     let r = c .before in
     let l = r .before .before in
     let start = l .before .before in
-    (row-bytes (start .args .s .now) (l .loop .row) (omega arith) (r .row .result) (r .row .ensures) (omega arith), start .pre .1)
+    record { wide = row-bytes (start .args .s .now) (l .loop .row) (omega arith) (r .row .result) (r .row .ensures) (start .pre .whole); due = start .pre .due }
 
 -- what the test found is whether the row keeps its rule
 tested : (c : tie.After-keeps Inv-loop μ-loop) →

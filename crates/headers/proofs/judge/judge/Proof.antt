@@ -64,10 +64,10 @@ returns-2 c =
     ∙ sym (early-refused s (b .before .if1 .left) nothing (b .first-broken .result) (b .first-broken .ensures) (c .before .before .if2 .taken))
 
 due-in-requires : tie.Need-due-in-requires
-due-in-requires c κs = (c .before .before .if1 .left, fixed-here c .latitude)
+due-in-requires c κs = record { whole = c .before .before .if1 .left; latitude = fixed-here c .latitude }
 
 first-broken-requires-2 : tie.Need-first-broken-requires-2
-first-broken-requires-2 c κs = (omega arith, rw (c .due-in .ensures) (due-within _ (fixed-here (c .before))))
+first-broken-requires-2 c κs = record { ordered = omega arith; rows = omega arith; whole = omega arith; due = rw (c .due-in .ensures) (due-within _ (fixed-here (c .before))) }
 
 row-requires-2 : tie.Need-row-requires-2
 row-requires-2 c κs = search needs

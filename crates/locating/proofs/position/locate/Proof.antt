@@ -8,7 +8,6 @@ use Rattle.locating.specs.Position.{located}
 use borrow.Author.Needs.{needs}
 use mathlib.Core.Path.{_≡_, sym, _∙_}
 use mir.Facts.{toZ-ofZ}
-use native.Mathlib.Omega.{arith}
 
 good : (c : tie.After-known-told) → judged (c .before .before .before .before .before .args .cell .now) ≡ Good (c .before .judged .given .0 .0)
 good c = sym (c .before .before .before .judge .ensures) ∙ c .before .judged .given .1
@@ -22,8 +21,7 @@ enum-known-judged c = search needs
 locate-in-requires : tie.Need-locate-in-requires
 locate-in-requires c κs =
     let f = good-facts (c .before .before .before .before .before .args .cell .now) _ (good c) in
-    let g = f .grid in
-    ((omega (arith, g .latitude-low), (omega (arith, g .longitude-low), (f .latitude, f .longitude))), (g .columns-high, (g .posts-high, g .column)))
+    record { grid = f .grid; latitude = f .latitude; longitude = f .longitude }
 
 enum-known-judged-2 : tie.Need-enum-known-judged-2
 enum-known-judged-2 c = search needs

@@ -16,15 +16,15 @@ found c =
     rw (toZ-ofZ (start .fits .latitude), toZ-ofZ (start .fits .longitude)) at (c .south-west .ensures)
 
 -- the position lies in the cell, at this corner
-inside : (c : tie.After-known-told) →
-    let a = c .before .before .before .before .before .before .before .args in
-    southWest (a .facts) (a .latitude) (a .longitude) ≡ within.In (c .before .within .given .0 .0)
-inside c = sym (found (c .before .before .before)) ∙ c .before .within .given .1
+module _ (c : tie.After-known-told) where
+  abbrev start : tie.Start
+  start = c .before .before .before .before .before .before .before
 
-small : (c : tie.After-known-told) → Small (c .before .within .given .0 .0)
-small c =
-    let a = c .before .before .before .before .before .before .before .args in
-    corner-small (a .facts) (a .latitude) (a .longitude) _ (inside c)
+  inside : southWest (start .args .facts) (start .args .latitude) (start .args .longitude) ≡ within.In (c .before .within .given .0 .0)
+  inside = sym (found (c .before .before .before)) ∙ c .before .within .given .1
+
+  small : Small (c .before .within .given .0 .0)
+  small = corner-small (start .args .facts) (start .args .latitude) (start .args .longitude) _ inside
 
 south-west-requires : tie.Need-south-west-requires
 south-west-requires c κs = search needs
@@ -33,13 +33,16 @@ enum-known-within : tie.Need-enum-known-within
 enum-known-within c = search needs
 
 nearest-requires : tie.Need-nearest-requires
-nearest-requires c κs = (small c .column, small c .east)
+nearest-requires c κs = small c .columns
 
 nearest-requires-2 : tie.Need-nearest-requires-2
-nearest-requires-2 c κs = (small (c .before) .post, small (c .before) .north)
+nearest-requires-2 c κs = small (c .before) .posts
+
+frame-of-requires : tie.Need-frame-of-requires
+frame-of-requires c κs = search needs
 
 reach-in-requires : tie.Need-reach-in-requires
-reach-in-requires c κs = search needs
+reach-in-requires c κs = rw (c .frame-of .ensures) (start (c .before .before .before) .pre .grid)
 
 read-requires : tie.Need-read-requires
 read-requires c κs = search needs
@@ -52,10 +55,17 @@ enum-told c = search needs
 
 returns : tie.Need-returns
 returns c =
-    let two = c .before .before .before in
+    let frame = c .before .before .before in
+    let two = frame .before in
     let one = two .before in
-    rw (inside (one .before), ← one .nearest .ensures, ← two .nearest2 .ensures, ← c .before .before .reach-in .ensures, ← c .before .read .ensures)
-    (c .tell .ensures)
+    rw (
+      inside (one .before),
+      ← one .nearest .ensures,
+      ← two .nearest2 .ensures,
+      ← frame .frame-of .ensures,
+      ← c .before .before .reach-in .ensures,
+      ← c .before .read .ensures,
+    ) (c .tell .ensures)
 
 returns-2 : tie.Need-returns-2
 returns-2 c = rw (sym (found (c .before .before)) ∙ c .enum-told .given .1)
@@ -68,6 +78,7 @@ locate-in-spec =
     enum-known-within
     nearest-requires
     nearest-requires-2
+    frame-of-requires
     reach-in-requires
     read-requires
     tell-requires

@@ -27,7 +27,7 @@ returns c =
 cast-t9 : tie.Need-cast-t9
 cast-t9 c =
     let n = metres c in
-    cast w16 _ (n .size) (n .back) (omega (arith, accuracy-high (n .size) (rw (n .is) at (c .before .before .pre .1))))
+    cast w16 _ (n .size) (n .back) (omega (arith, accuracy-high (n .size) (rw (n .is) at (c .before .before .pre .passed))))
 
 returns-2 : tie.Need-returns-2
 returns-2 c = let n = metres c in rw (n .back) (sym (ap accuracyFor (n .is)))

@@ -13,13 +13,13 @@ use native.Mathlib.Omega.{arith}
 
 module _ (c : tie.After-result) where
   place : Angled (c .before .args .side) (item (c .before .args .items .now) (c .before .args .i))
-  place = angled _ _ (c .before .pre .1 .0 .0) (c .before .pre .1 .1)
+  place = angled _ _ (c .before .pre .positive) (c .before .pre .degrees)
 
   sum : toZ w64 (ofZ w64 (item (c .before .args .items .now) (c .before .args .i))) +ℤ toZ w64 (c .before .args .side) ≡ pos (place .size)
-  sum = rw (toZ-ofZ (record { sfits = c .result .given }), toZ-pos w64 {n = c .before .args .side} (omega (arith, c .before .pre .1 .0 .1))) (place .up)
+  sum = rw (toZ-ofZ (record { sfits = c .result .given }), toZ-pos w64 {n = c .before .args .side} (omega (arith, c .before .pre .most))) (place .up)
 
   fits : SFits w64 (pos (place .size))
-  fits = record { sfits = omega (arith, place .small, c .before .pre .1 .0 .1) }
+  fits = record { sfits = omega (arith, place .small, c .before .pre .most) }
 
   back : toZ w64 (ofZ w64 (toZ w64 (ofZ w64 (item (c .before .args .items .now) (c .before .args .i))) +ℤ toZ w64 (c .before .args .side))) ≡ pos (place .size)
   back = rw sum (toZ-ofZ fits)
@@ -37,7 +37,7 @@ add-result : tie.Need-add-result
 add-result c = rw (sum c) (fits c)
 
 cast-result-2 : tie.Need-cast-result-2
-cast-result-2 c = cast w64 _ (place c .size) (back c) (omega (arith, place c .small, c .before .pre .1 .0 .1))
+cast-result-2 c = cast w64 _ (place c .size) (back c) (omega (arith, place c .small, c .before .pre .most))
 
 returns : tie.Need-returns
 returns c = cast-is _ _ (place c .size) (back c) (place c .up)

@@ -9,7 +9,7 @@ use mir.Syntax.{w64}
 use native.Mathlib.Omega.{arith}
 
 not-below : (c : tie.After-result) → NotBelow w64 (item (c .before .args .items .now) (c .before .args .i))
-not-below c = whole _ (record { sfits = c .result .given }) (c .before .pre .1)
+not-below c = whole _ (record { sfits = c .result .given }) (c .before .pre .passed)
 
 mul-result : tie.Need-mul-result
 mul-result c = search needs

@@ -16,51 +16,43 @@ within : (s : tie.Start) (i : Item) → numberTest i (given (s .args .items .now
 within s = ranged-numbers (s .args .items .now) (s .pre)
 
 count-requires : tie.Need-count-requires
-count-requires c κs = (omega arith, from-zero 0 2 (item (c .args .items .now) 0) (within c level))
+count-requires c κs = record { there = omega arith; passed = from-zero 0 2 (item (c .args .items .now) 0) (within c level) }
 
 angle-requires : tie.Need-angle-requires
-angle-requires c κs = (omega arith, ((omega arith, omega arith), within (c .before) originLatitude))
+angle-requires c κs = record { there = omega arith; positive = omega arith; most = omega arith; degrees = within (c .before) originLatitude }
 
 angle-requires-2 : tie.Need-angle-requires-2
-angle-requires-2 c κs = (omega arith, ((omega arith, omega arith), within (c .before .before) originLongitude))
+angle-requires-2 c κs = record { there = omega arith; positive = omega arith; most = omega arith; degrees = within (c .before .before) originLongitude }
 
 letter-requires : tie.Need-letter-requires
-letter-requires c κs =
-    let s = c .before .before .before in
-    (omega arith, passes-byte isLetter letters (item (s .args .items .now) 3) (within s securityLetter))
+letter-requires c κs = let s = c .before .before .before in record { there = omega arith; passed = passes-byte isLetter letters (item (s .args .items .now) 3) (within s securityLetter) }
 
 count-requires-2 : tie.Need-count-requires-2
-count-requires-2 c κs =
-    let s = c .before .before .before .before in
-    (omega arith, from-zero 1 99 (item (s .args .items .now) 4) (within s edition))
+count-requires-2 c κs = let s = c .before .before .before .before in record { there = omega arith; passed = from-zero 1 99 (item (s .args .items .now) 4) (within s edition) }
 
 letter-requires-2 : tie.Need-letter-requires-2
-letter-requires-2 c κs =
-    let s = c .before .before .before .before .before in
-    (omega arith, passes-byte isVersion versions (item (s .args .items .now) 5) (within s matchVersion))
+letter-requires-2 c κs = let s = c .before .before .before .before .before in record { there = omega arith; passed = passes-byte isVersion versions (item (s .args .items .now) 5) (within s matchVersion) }
 
 datum-requires : tie.Need-datum-requires
 datum-requires c κs = search needs
 
 accuracy-requires : tie.Need-accuracy-requires
-accuracy-requires c κs = let s = c .before .before .before .before .before .before .before in (omega arith, within s (accuracy Uhl))
+accuracy-requires c κs = let s = c .before .before .before .before .before .before .before in record { there = omega arith; passed = within s (accuracy Uhl) }
 
 accuracy-requires-2 : tie.Need-accuracy-requires-2
-accuracy-requires-2 c κs = let s = c .before .before .before .before .before .before .before .before in (omega arith, within s (accuracy AbsoluteHorizontal))
+accuracy-requires-2 c κs = let s = c .before .before .before .before .before .before .before .before in record { there = omega arith; passed = within s (accuracy AbsoluteHorizontal) }
 
 accuracy-requires-3 : tie.Need-accuracy-requires-3
-accuracy-requires-3 c κs = let s = c .before .before .before .before .before .before .before .before .before in (omega arith, within s (accuracy AbsoluteVertical))
+accuracy-requires-3 c κs = let s = c .before .before .before .before .before .before .before .before .before in record { there = omega arith; passed = within s (accuracy AbsoluteVertical) }
 
 accuracy-requires-4 : tie.Need-accuracy-requires-4
-accuracy-requires-4 c κs = let s = c .before .before .before .before .before .before .before .before .before .before in (omega arith, within s (accuracy RelativeHorizontal))
+accuracy-requires-4 c κs = let s = c .before .before .before .before .before .before .before .before .before .before in record { there = omega arith; passed = within s (accuracy RelativeHorizontal) }
 
 accuracy-requires-5 : tie.Need-accuracy-requires-5
-accuracy-requires-5 c κs = let s = c .before .before .before .before .before .before .before .before .before .before .before in (omega arith, within s (accuracy RelativeVertical))
+accuracy-requires-5 c κs = let s = c .before .before .before .before .before .before .before .before .before .before .before in record { there = omega arith; passed = within s (accuracy RelativeVertical) }
 
 count-requires-3 : tie.Need-count-requires-3
-count-requires-3 c κs =
-    let s = c .before .before .before .before .before .before .before .before .before .before .before .before in
-    (omega arith, from-zero 0 99 (item (s .args .items .now) 12) (within s partialIndicator))
+count-requires-3 c κs = let s = c .before .before .before .before .before .before .before .before .before .before .before .before in record { there = omega arith; passed = from-zero 0 99 (item (s .args .items .now) 12) (within s partialIndicator) }
 
 returns : tie.Need-returns
 unfolding descriptionOf

@@ -12,7 +12,7 @@ lies-requires : tie.Need-lies-requires
 lies-requires c κs = search needs
 
 letter-requires : tie.Need-letter-requires
-letter-requires c κs = (omega arith, sym (c .before .lies .ensures) ∙ c .if1 .taken)
+letter-requires c κs = record { there = omega arith; passed = sym (c .before .lies .ensures) ∙ c .if1 .taken }
 
 is-version-requires : tie.Need-is-version-requires
 is-version-requires c κs = search needs

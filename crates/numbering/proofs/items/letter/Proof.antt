@@ -13,7 +13,7 @@ use native.Mathlib.Omega.{arith}
 
 module _ (c : tie.After-result) where
   byte : Ranged 0 255 (item (c .before .args .items .now) (c .before .args .i))
-  byte = ranged 0 255 _ (c .before .pre .1)
+  byte = ranged 0 255 _ (c .before .pre .passed)
 
   back : toZ w64 (ofZ w64 (item (c .before .args .items .now) (c .before .args .i))) ≡ pos (byte .size)
   back = toZ-ofZ (record { sfits = c .result .given }) ∙ byte .is

@@ -11,10 +11,10 @@ use mir.Val.{toZ}
 use native.Mathlib.Omega.{arith}
 
 angle : (s : tie.Start) → toZ w64 (s .args .angle) ≡ pos (s .args .angle)
-angle s = toZ-pos w64 {n = s .args .angle} (omega (arith, s .pre .0))
+angle s = toZ-pos w64 {n = s .args .angle} (omega arith)
 
 side : (s : tie.Start) → toZ w64 (s .args .side) ≡ pos (s .args .side)
-side s = toZ-pos w64 {n = s .args .side} (omega (arith, s .pre .1))
+side s = toZ-pos w64 {n = s .args .side} (omega arith)
 
 cast-result : tie.Need-cast-result
 cast-result c = search needs
@@ -23,10 +23,10 @@ cast-result-2 : tie.Need-cast-result-2
 cast-result-2 c = search needs
 
 sub-result : tie.Need-sub-result
-sub-result c = rw (angle c, side c) (difference-fits _ _ (c .pre .0) (c .pre .1))
+sub-result c = rw (angle c, side c) (difference-fits _ _ (c .pre .angle) (c .pre .side))
 
 returns : tie.Need-returns
-returns c = rw (angle c, side c) (toZ-ofZ (difference-fits (c .args .angle) (c .args .side) (c .pre .0) (c .pre .1)))
+returns c = rw (angle c, side c) (toZ-ofZ (difference-fits (c .args .angle) (c .args .side) (c .pre .angle) (c .pre .side)))
 
 pub degrees-spec : {M : Type 1} → statement M
 degrees-spec = tie.close (tie.spec cast-result cast-result-2 sub-result returns)

@@ -21,10 +21,10 @@ counting-requires : tie.Need-counting-requires
 counting-requires c κs = omega (arith, within (c .before .before) .level)
 
 degrees-requires : tie.Need-degrees-requires
-degrees-requires c κs = (omega (arith, within (c .before .before .before) .latitude), omega arith)
+degrees-requires c κs = omega (arith, within (c .before .before .before) .latitude)
 
 degrees-requires-2 : tie.Need-degrees-requires-2
-degrees-requires-2 c κs = (omega (arith, within (c .before .before .before .before) .longitude), omega arith)
+degrees-requires-2 c κs = omega (arith, within (c .before .before .before .before) .longitude)
 
 cast-counting : tie.Need-cast-counting
 cast-counting c = search needs

@@ -17,17 +17,20 @@ judge-requires c κs = search needs
 enum-known-judged : tie.Need-enum-known-judged
 enum-known-judged c = search needs
 
+frame-of-requires : tie.Need-frame-of-requires
+frame-of-requires c κs = search needs
+
 reach-in-requires : tie.Need-reach-in-requires
 reach-in-requires c κs =
-    let f = good-facts (c .before .before .before .before .before .args .cell .now) _ (good c) .grid in
-    (f .columns-high, (f .posts-high, f .column))
+    let k = c .before in
+    rw (c .frame-of .ensures) (good-facts (k .before .before .before .before .before .args .cell .now) _ (good k) .grid)
 
 enum-known-judged-2 : tie.Need-enum-known-judged-2
 enum-known-judged-2 c = search needs
 
 returns : tie.Need-returns
 unfolding reached
-returns c = rw (good (c .before)) (c .reach-in .ensures)
+returns c = rw (good (c .before .before), ← c .before .frame-of .ensures) (c .reach-in .ensures)
 
 returns-2 : tie.Need-returns-2
 unfolding reached
@@ -39,6 +42,7 @@ reach-spec =
     (tie.spec
     judge-requires
     enum-known-judged
+    frame-of-requires
     reach-in-requires
     enum-known-judged-2
     returns

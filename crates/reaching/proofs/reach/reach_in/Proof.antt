@@ -1,30 +1,31 @@
 -- `reach_in`: off the grid, its column cut, or as its column is judged.
 use Prim.Native.Nat.{_*_, _≤_}
+use Rattle.cells.proofs.ColumnPlaces.{start-small, part-is}
 use Rattle.reaching.proofs.PostReached.{off-columns, off-posts, column-cut, column-judged}
-use Rattle.reading.proofs.Turns.{start-small, part-is}
 use Rattle.reaching.proofs.reach.reach_in.Statement.{statement}
 use Rattle.reaching.proofs.reach.reach_in.Tie as tie
 use borrow.Author.Needs.{needs}
-use mathlib.Core.Path.{refl, sym, _∙_}
+use mathlib.Core.Path.{refl}
 use native.Mathlib.Omega.{arith}
 
--- the start of the column is a small number
-small : (c : tie.After-bytes) →
-    let a = c .before .before .before .before .before .before .args in
-    a .column * a .facts .grid .bytes .column ≤ 3601 * 7214
-small c =
-    let a = c .before .before .before .before .before .before .args in
-    start-small (a .column) (a .facts .grid .bytes .column) (omega arith) (omega arith)
+-- the post is on the grid
+module _ (c : tie.After-bytes) where
+  abbrev start : tie.Start
+  start = c .before .before .before .before .before .before
+
+  -- the start of its column is a small number
+  small : start .args .column * start .args .frame .grid .bytes .column ≤ 3601 * 7214
+  small = start-small (start .args .column) (start .args .frame .grid .bytes .column) (omega arith) (omega arith)
 
 returns : tie.Need-returns
 returns c =
     let a = c .before .before .before .before .args in
-    off-columns (a .cell .now) (a .facts) (a .column) (a .post) (c .if1 .taken)
+    off-columns (a .cell .now) (a .frame) (a .column) (a .post) (c .if1 .taken)
 
 returns-2 : tie.Need-returns-2
 returns-2 c =
     let a = c .before .before .before .before .before .args in
-    off-posts (a .cell .now) (a .facts) (a .column) (a .post) (c .before .if1 .left) (c .if2 .taken)
+    off-posts (a .cell .now) (a .frame) (a .column) (a .post) (c .before .if1 .left) (c .if2 .taken)
 
 mul-start : tie.Need-mul-start
 mul-start c = omega (arith, small c)
@@ -37,12 +38,9 @@ add-end c = omega (arith, small c)
 
 returns-3 : tie.Need-returns-3
 returns-3 c =
-    let e = c .before .before in
-    let a = e .before .before .before .before .before .args in
-    column-cut (a .cell .now) (a .facts) (a .column) (a .post) (e .before .if1 .left) (e .if2 .left) (c .if3 .taken)
-
-may-hold-voids-requires : tie.Need-may-hold-voids-requires
-may-hold-voids-requires c κs = search needs
+    let on = c .before in
+    let a = start on .args in
+    column-cut (a .cell .now) (a .frame) (a .column) (a .post) (on .before .before .if1 .left) (on .before .if2 .left) (c .if3 .taken)
 
 sub-part : tie.Need-sub-part
 sub-part c = search needs
@@ -74,22 +72,18 @@ enum-known-judged c = search needs
 returns-4 : tie.Need-returns-4
 returns-4 c =
     let j = c .before .before .before in
-    let v = j .before .before in
-    let e = v .before .before .before in
-    let a = e .before .before .before .before .before .args in
-    column-judged (a .cell .now) (a .facts) (a .column) (a .post) (e .before .if1 .left) (e .if2 .left) (v .before .if3 .left)
-    _ (part-is (a .cell .now) (a .facts .grid) (a .column) _ refl) _ (v .may-hold-voids .ensures)
-    _ (sym (c .before .enum-told .given .1) ∙ j .judge .ensures) _ (c .be16 .ensures)
+    let on = j .before .before .before in
+    let a = start on .args in
+    column-judged (a .cell .now) (a .frame) (a .column) (a .post) (on .before .before .if1 .left) (on .before .if2 .left) (j .before .before .if3 .left)
+    _ (part-is (a .cell .now) (a .frame .grid) (a .column) _ refl) _ (rw (c .before .enum-told .given .1) at (j .judge .ensures)) _ (c .be16 .ensures)
 
 returns-5 : tie.Need-returns-5
 returns-5 c =
     let j = c .before .before .before in
-    let v = j .before .before in
-    let e = v .before .before .before in
-    let a = e .before .before .before .before .before .args in
-    column-judged (a .cell .now) (a .facts) (a .column) (a .post) (e .before .if1 .left) (e .if2 .left) (v .before .if3 .left)
-    _ (part-is (a .cell .now) (a .facts .grid) (a .column) _ refl) _ (v .may-hold-voids .ensures)
-    _ (sym (c .before .judged .given .1) ∙ j .judge .ensures) _ refl
+    let on = j .before .before .before in
+    let a = start on .args in
+    column-judged (a .cell .now) (a .frame) (a .column) (a .post) (on .before .before .if1 .left) (on .before .if2 .left) (j .before .before .if3 .left)
+    _ (part-is (a .cell .now) (a .frame .grid) (a .column) _ refl) _ (rw (c .before .judged .given .1) at (j .judge .ensures)) _ refl
 
 pub reach-in-spec : {M : Type 1} → statement M
 reach-in-spec =
@@ -101,7 +95,6 @@ reach-in-spec =
     add-start
     add-end
     returns-3
-    may-hold-voids-requires
     sub-part
     part-part-start
     part-part-end

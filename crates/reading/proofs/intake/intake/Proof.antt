@@ -1,4 +1,4 @@
--- `intake`: the headers, then the columns that they make due.
+-- `intake`: the headers, then the columns of the frame that they give.
 use Rattle.headers.proofs.Exactly.{good-follows}
 use Rattle.headers.proofs.FirstFour.{good-facts}
 use Rattle.headers.specs.Judged.{judged}
@@ -18,24 +18,21 @@ judge-requires c κs = search needs
 enum-known-judged : tie.Need-enum-known-judged
 enum-known-judged c = search needs
 
-may-hold-voids-requires : tie.Need-may-hold-voids-requires
-may-hold-voids-requires c κs = search needs
+frame-of-requires : tie.Need-frame-of-requires
+frame-of-requires c κs = search needs
 
 take-columns-requires : tie.Need-take-columns-requires
 take-columns-requires c κs =
-    let k = c .before .before in
-    let s = k .before .before .before .before .before .args .cell .now in
-    let f = good-facts s _ (good k) .grid in
-    (good-follows s _ (good k) .0 .0, (f .posts-high, f .column))
+    let s = c .before .before .before .before .before .before .args .cell .now in
+    let g = good (c .before) in
+    rw (c .frame-of .ensures) (record { headers = good-follows s _ g .0 .0; grid = good-facts s _ g .grid })
 
 enum-known-judged-2 : tie.Need-enum-known-judged-2
 enum-known-judged-2 c = search needs
 
 returns : tie.Need-returns
 unfolding taken
-returns c =
-    let k = c .before .before .before in
-    rw (good k, ← c .before .may-hold-voids .ensures) (c .take-columns .ensures)
+returns c = rw (good (c .before .before)) (rw (c .before .frame-of .ensures) at (c .take-columns .ensures))
 
 returns-2 : tie.Need-returns-2
 unfolding taken
@@ -47,7 +44,7 @@ intake-spec =
     (tie.spec
     judge-requires
     enum-known-judged
-    may-hold-voids-requires
+    frame-of-requires
     take-columns-requires
     enum-known-judged-2
     returns

@@ -1,43 +1,54 @@
 -- `take_columns`: what is left of the columns, and within one of its words, answers as the whole.
-use Prim.Native.Nat.{_+_, _-_, _≤_}
-use Rattle.columns.proofs.WordSearch.{word-on, word-stop}
+use Prim.Native.Nat.{ℕ, _+_, _-_, _≤_}
+use Rattle.columns.proofs.WordSearch.{word-on, word-stop, words-end}
 use Rattle.columns.specs.Column.{wordIn}
 use Rattle.columns.specs.Judged.{andThen, wordsFrom}
 use Rattle.columns.specs.declared.Judged.{Judged}
+use Rattle.layout.specs.declared.Frame.{Frame}
 use Rattle.octets.proofs.PasteLaws.{length-part}
-use Rattle.octets.proofs.ScanLaws.{scan-done}
 use Rattle.posts.specs.Words.{wordAllowed}
-use Rattle.reading.proofs.Turns.{next-start, part-is, turn-cut, turn-as, turn-end}
+use Rattle.cells.proofs.ColumnPlaces.{next-start, part-is}
+use Rattle.cells.specs.Cell.{startOf}
+use Rattle.reading.proofs.Turns.{turn-cut, turn-as, turn-end}
 use Rattle.reading.proofs.intake.take_columns.Statement.{statement}
 use Rattle.reading.proofs.intake.take_columns.Tie as tie
-use Rattle.reading.specs.Cell.{startOf}
 use Rattle.reading.specs.Intake.{orRest, columnsFrom}
 use borrow.Author.Needs.{needs}
 use borrow.Author.Tests.{not-true, not-false}
 use lib.ListN.{length, take, drop}
+use mathlib.Core.List.{List}
 use mathlib.Core.Path.{_≡_, sym, _∙_}
 use native.Mathlib.Nat.{sub-zero, add-sub-cancel-left}
 use native.Mathlib.Omega.{arith}
 
+-- from column k on, at its start, what is left answers as the whole
+record ColumnsLeft (cell : List ℕ) (f : Frame) (k base : ℕ) : Type 0 where
+  due : k ≤ f .grid .columns
+  start : base ≡ startOf (f .grid) k
+  there : base ≤ length cell
+  left : columnsFrom cell f k (f .grid .columns - k) ≡ columnsFrom cell f 0 (f .grid .columns)
+
+-- and within column k, from word i on
+record WordsLeft (cell : List ℕ) (f : Frame) (k base : ℕ) (column : List ℕ) (i : ℕ) : Type 0 where
+  due : i ≤ f .grid .posts
+  long : length column ≡ f .grid .bytes .column
+  left : orRest (wordsFrom column (f .voids) base i (f .grid .posts - i)) (columnsFrom cell f (k + 1) (f .grid .columns - (k + 1)))
+      ≡ columnsFrom cell f 0 (f .grid .columns)
+
 abbrev Inv-loop : tie.InvT-loop
-Inv-loop cell grid voids size columns posts k base next column i₀ i =
-    (i ≤ posts) × ((length column ≡ size) × (
-    orRest (wordsFrom column voids base i (posts - i)) (columnsFrom cell grid voids (k + 1) (grid .columns - (k + 1)))
-    ≡ columnsFrom cell grid voids 0 (grid .columns)))
+Inv-loop cell grid voids size columns posts k base next column i₀ i = WordsLeft cell (record { grid = grid; voids = voids }) k base column i
 
 abbrev μ-loop : tie.MeasureT-loop
 μ-loop cell grid voids size columns posts k base next column i₀ i = posts - i
 
 abbrev Inv-columns : tie.InvT-columns
-Inv-columns cell grid voids size columns posts k₀ base₀ k base =
-    (k ≤ columns) × ((base ≡ startOf grid k) × ((base ≤ length cell) × (
-    columnsFrom cell grid voids k (grid .columns - k) ≡ columnsFrom cell grid voids 0 (grid .columns))))
+Inv-columns cell grid voids size columns posts k₀ base₀ k base = ColumnsLeft cell (record { grid = grid; voids = voids }) k base
 
 abbrev μ-columns : tie.MeasureT-columns
 μ-columns cell grid voids size columns posts k₀ base₀ k base = columns - k
 
 columns-holds : tie.Need-columns-holds Inv-loop μ-loop Inv-columns μ-columns
-columns-holds c = (omega arith, (omega arith, (omega arith, rw sub-zero)))
+columns-holds c = record { due = omega arith; start = omega arith; there = omega arith; left = rw sub-zero }
 
 end-requires : tie.Need-end-requires Inv-loop μ-loop Inv-columns μ-columns
 end-requires c κs = search needs
@@ -63,19 +74,20 @@ judge-head-requires c κs = search needs
 -- where preamble and checksum were judged x, the turn's answer goes by x
 turned : (c : tie.After-judge-head Inv-loop μ-loop Inv-columns μ-columns) (x : Judged) → c .judge-head .result ≡ x →
     let z = c .before .before .before .before in
-    let a = z .before .before .before .args in
-    let part = take (z .columns .base + a .grid .bytes .column - z .columns .base) (drop (z .columns .base) (a .cell .now)) in
-    orRest (andThen x (wordsFrom part (a .voids) (z .columns .base) 0 (a .grid .posts)))
-    (columnsFrom (a .cell .now) (a .grid) (a .voids) (z .columns .k + 1) (a .grid .columns - (z .columns .k + 1)))
-    ≡ columnsFrom (a .cell .now) (a .grid) (a .voids) 0 (a .grid .columns)
+    let a = z .before .before .before .before .args in
+    let f = a .frame in
+    let part = take (z .columns .base + f .grid .bytes .column - z .columns .base) (drop (z .columns .base) (a .cell .now)) in
+    orRest (andThen x (wordsFrom part (f .voids) (z .columns .base) 0 (f .grid .posts)))
+    (columnsFrom (a .cell .now) f (z .columns .k + 1) (f .grid .columns - (z .columns .k + 1)))
+    ≡ columnsFrom (a .cell .now) f 0 (f .grid .columns)
 turned c x q =
     let z = c .before .before .before .before in
-    let a = z .before .before .before .args in
-    let g = a .grid in
-    sym (turn-as (a .cell .now) g (a .voids) (z .columns .k) (z .columns .base) (z .columns .inv .1 .0)
-    (c .before .before .before .if1 .left) (omega arith) _ (part-is (a .cell .now) g (z .columns .k) (z .columns .base) (z .columns .inv .1 .0))
+    let a = z .before .before .before .before .args in
+    let start = z .columns .inv .start in
+    sym (turn-as (a .cell .now) (a .frame) (z .columns .k) (z .columns .base) start
+    (c .before .before .before .if1 .left) (omega arith) _ (part-is (a .cell .now) (a .frame .grid) (z .columns .k) (z .columns .base) start)
     x (sym (c .judge-head .ensures) ∙ q))
-    ∙ z .columns .inv .1 .1 .1
+    ∙ z .columns .inv .left
 
 enum-known-head : tie.Need-enum-known-head Inv-loop μ-loop Inv-columns μ-columns
 enum-known-head c = search needs
@@ -86,13 +98,12 @@ enum-told c = search needs
 loop-holds : tie.Need-loop-holds Inv-loop μ-loop Inv-columns μ-columns
 loop-holds c =
     let z = c .before .before .before .before .before .before in
-    let a = z .before .before .before .args in (
-      omega arith,
-      (
-        length-part (a .cell .now) (z .columns .base) (z .columns .base + a .grid .bytes .column) (omega arith) (omega arith) ∙ add-sub-cancel-left _ _,
-        rw sub-zero (turned (c .before .before) _ (c .enum-told .given .1)),
-      ),
-    )
+    let a = z .before .before .before .before .args in
+    record {
+      due = omega arith;
+      long = length-part (a .cell .now) (z .columns .base) (z .columns .base + a .frame .grid .bytes .column) (omega arith) (omega arith) ∙ add-sub-cancel-left _ _;
+      left = rw sub-zero (turned (c .before .before) _ (c .enum-told .given .1));
+    }
 
 mul-at : tie.Need-mul-at Inv-loop μ-loop Inv-columns μ-columns
 mul-at c = search needs
@@ -104,9 +115,9 @@ add-at c = search needs
 found : (c : tie.After-is-allowed Inv-loop μ-loop Inv-columns μ-columns) →
     let l = c .before .before .before in
     let z = l .before .before .before .before .before .before .before in
-    let a = z .before .before .before .args in
-    let part = take (z .columns .base + a .grid .bytes .column - z .columns .base) (drop (z .columns .base) (a .cell .now)) in
-    wordAllowed (a .voids) (wordIn part (l .loop .i)) ≡ c .is-allowed .result
+    let a = z .before .before .before .before .args in
+    let part = take (z .columns .base + a .frame .grid .bytes .column - z .columns .base) (drop (z .columns .base) (a .cell .now)) in
+    wordAllowed (a .frame .voids) (wordIn part (l .loop .i)) ≡ c .is-allowed .result
 found c = sym (rw (c .before .be16 .ensures) at (c .is-allowed .ensures))
 
 be16-requires : tie.Need-be16-requires Inv-loop μ-loop Inv-columns μ-columns
@@ -115,8 +126,8 @@ be16-requires c κs = search needs
 is-allowed-requires : tie.Need-is-allowed-requires Inv-loop μ-loop Inv-columns μ-columns
 is-allowed-requires c κs = search needs
 
-add-t29 : tie.Need-add-t29 Inv-loop μ-loop Inv-columns μ-columns
-add-t29 c = search needs
+add-t30 : tie.Need-add-t30 Inv-loop μ-loop Inv-columns μ-columns
+add-t30 c = search needs
 
 add-i : tie.Need-add-i Inv-loop μ-loop Inv-columns μ-columns
 add-i c = search needs
@@ -126,13 +137,12 @@ loop-less c = search needs
 
 loop-again : tie.Need-loop-again Inv-loop μ-loop Inv-columns μ-columns
 loop-again c =
-    let l = c .before .before .before .before .loop .inv .1 in (
-      omega arith,
-      (
-        l .0,
-        rw (← word-on _ _ _ _ _ (c .before .before .before .loop-test .taken) (found (c .before) ∙ not-false _ (c .if3 .left))) (l .1),
-      ),
-    )
+    let l = c .before .before .before .before .loop .inv in
+    record {
+      due = omega arith;
+      long = l .long;
+      left = rw (← word-on _ _ _ _ _ (c .before .before .before .loop-test .taken) (found (c .before) ∙ not-false _ (c .if3 .left))) (l .left);
+    }
 
 add-k : tie.Need-add-k Inv-loop μ-loop Inv-columns μ-columns
 add-k c = search needs
@@ -143,39 +153,37 @@ columns-less c = search needs
 columns-again : tie.Need-columns-again Inv-loop μ-loop Inv-columns μ-columns
 columns-again c =
     let z = c .before .before .before .before .before .before .before .before in
-    let a = z .before .before .before .args in (
-      omega arith,
-      (
-        omega (arith, next-start (a .grid) (z .columns .k)),
-        (
-          omega arith,
-          rw (scan-done _ _ _ _ (c .loop-test .left)) at (c .before .loop .inv .1 .1),
-        ),
-      ),
-    )
+    let a = z .before .before .before .before .args in
+    let part = take (z .columns .base + a .frame .grid .bytes .column - z .columns .base) (drop (z .columns .base) (a .cell .now)) in
+    record {
+      due = omega arith;
+      start = omega (arith, next-start (a .frame .grid) (z .columns .k));
+      there = omega arith;
+      left = rw (words-end part (a .frame .voids) (z .columns .base) (c .before .loop .i) (a .frame .grid .posts) (c .loop-test .left)) at (c .before .loop .inv .left);
+    }
 
 returns : tie.Need-returns Inv-loop μ-loop Inv-columns μ-columns
 returns c =
     let z = c .before .before in
-    let a = z .before .before .before .args in
+    let a = z .before .before .before .before .args in
     c .end .ensures
-    ∙ sym (turn-end (a .cell .now) (a .grid) (a .voids) (z .columns .k) (z .columns .base) (z .columns .inv .1 .0) (c .before .if1 .taken))
-    ∙ z .columns .inv .1 .1 .1
+    ∙ sym (turn-end (a .cell .now) (a .frame) (z .columns .k) (z .columns .base) (z .columns .inv .start) (c .before .if1 .taken))
+    ∙ z .columns .inv .left
 
 returns-2 : tie.Need-returns-2 Inv-loop μ-loop Inv-columns μ-columns
 returns-2 c =
     let z = c .before .before in
-    let a = z .before .before .before .args in
-    sym (turn-cut (a .cell .now) (a .grid) (a .voids) (z .columns .k) (z .columns .base) (z .columns .inv .1 .0) (c .before .if1 .left) (omega arith))
-    ∙ z .columns .inv .1 .1 .1
+    let a = z .before .before .before .before .args in
+    sym (turn-cut (a .cell .now) (a .frame) (z .columns .k) (z .columns .base) (z .columns .inv .start) (c .before .if1 .left) (omega arith))
+    ∙ z .columns .inv .left
 
 returns-3 : tie.Need-returns-3 Inv-loop μ-loop Inv-columns μ-columns
 returns-3 c = turned (c .before .before .before) _ (c .before .head .given .1)
 
 returns-4 : tie.Need-returns-4 Inv-loop μ-loop Inv-columns μ-columns
 returns-4 c =
-    let l = c .before .before .before .before .loop .inv .1 in
-    rw (word-stop _ _ _ _ _ (c .before .before .before .loop-test .taken) (found (c .before) ∙ not-true _ (c .if3 .taken))) at (l .1)
+    let l = c .before .before .before .before .loop .inv .left in
+    rw (word-stop _ _ _ _ _ (c .before .before .before .loop-test .taken) (found (c .before) ∙ not-true _ (c .if3 .taken))) at l
 
 pub take-columns-spec : {M : Type 1} → statement M
 take-columns-spec =
@@ -200,7 +208,7 @@ take-columns-spec =
     add-at
     be16-requires
     is-allowed-requires
-    add-t29
+    add-t30
     add-i
     loop-less
     loop-again

@@ -1,16 +1,11 @@
 -- `text_holds`: the text of each constant stands in the whole field.
-use Prim.Native.Nat.{ℕ}
 use Rattle.rules.proofs.kinds.text_holds.Statement.{statement}
 use Rattle.rules.proofs.kinds.text_holds.Tie as tie
-use Rattle.rules.specs.Rules.{textOf}
-use Rattle.fields.specs.declared.Text.{Text}
+use Rattle.rules.specs.Rules.{widthOf}
+use Rattle.fields.specs.declared.Kind.the-variants.{Fixed}
 use borrow.Author.Needs.{needs}
-use lib.ListN.{length}
 use mathlib.Core.Path.{ap}
 use native.Mathlib.Omega.{arith}
-
-abbrev wide : Text → ℕ
-wide text = length (textOf text)
 
 enum-told : tie.Need-enum-told
 enum-told c = search needs
@@ -19,7 +14,7 @@ slice-aggregate-stands : tie.Need-slice-aggregate-stands
 slice-aggregate-stands c = search needs
 
 stands-requires : tie.Need-stands-requires
-stands-requires c κs = omega (arith, ap wide (c .before .enum-told .given .1))
+stands-requires c κs = omega (arith, ap (λ t. widthOf (Fixed t)) (c .before .enum-told .given .1))
 
 enum-told-2 : tie.Need-enum-told-2
 enum-told-2 c = search needs
@@ -28,7 +23,7 @@ slice-aggregate-stands-2 : tie.Need-slice-aggregate-stands-2
 slice-aggregate-stands-2 c = search needs
 
 stands-requires-2 : tie.Need-stands-requires-2
-stands-requires-2 c κs = omega (arith, ap wide (c .before .enum-told2 .given .1))
+stands-requires-2 c κs = omega (arith, ap (λ t. widthOf (Fixed t)) (c .before .enum-told2 .given .1))
 
 enum-told-3 : tie.Need-enum-told-3
 enum-told-3 c = search needs
@@ -37,7 +32,7 @@ slice-aggregate-stands-3 : tie.Need-slice-aggregate-stands-3
 slice-aggregate-stands-3 c = search needs
 
 stands-requires-3 : tie.Need-stands-requires-3
-stands-requires-3 c κs = omega (arith, ap wide (c .before .enum-told3 .given .1))
+stands-requires-3 c κs = omega (arith, ap (λ t. widthOf (Fixed t)) (c .before .enum-told3 .given .1))
 
 enum-told-4 : tie.Need-enum-told-4
 enum-told-4 c = search needs
@@ -46,7 +41,7 @@ slice-aggregate-stands-4 : tie.Need-slice-aggregate-stands-4
 slice-aggregate-stands-4 c = search needs
 
 stands-requires-4 : tie.Need-stands-requires-4
-stands-requires-4 c κs = omega (arith, ap wide (c .before .enum-told4 .given .1))
+stands-requires-4 c κs = omega (arith, ap (λ t. widthOf (Fixed t)) (c .before .enum-told4 .given .1))
 
 enum-told-5 : tie.Need-enum-told-5
 enum-told-5 c = search needs
@@ -55,7 +50,7 @@ slice-aggregate-stands-5 : tie.Need-slice-aggregate-stands-5
 slice-aggregate-stands-5 c = search needs
 
 stands-requires-5 : tie.Need-stands-requires-5
-stands-requires-5 c κs = omega (arith, ap wide (c .before .enum-told5 .given .1))
+stands-requires-5 c κs = omega (arith, ap (λ t. widthOf (Fixed t)) (c .before .enum-told5 .given .1))
 
 enum-told-6 : tie.Need-enum-told-6
 enum-told-6 c = search needs
@@ -64,7 +59,7 @@ slice-aggregate-stands-6 : tie.Need-slice-aggregate-stands-6
 slice-aggregate-stands-6 c = search needs
 
 stands-requires-6 : tie.Need-stands-requires-6
-stands-requires-6 c κs = omega (arith, ap wide (c .before .enum-told6 .given .1))
+stands-requires-6 c κs = omega (arith, ap (λ t. widthOf (Fixed t)) (c .before .enum-told6 .given .1))
 
 enum-told-7 : tie.Need-enum-told-7
 enum-told-7 c = search needs
@@ -73,7 +68,7 @@ slice-aggregate-stands-7 : tie.Need-slice-aggregate-stands-7
 slice-aggregate-stands-7 c = search needs
 
 stands-requires-7 : tie.Need-stands-requires-7
-stands-requires-7 c κs = omega (arith, ap wide (c .before .enum-told7 .given .1))
+stands-requires-7 c κs = omega (arith, ap (λ t. widthOf (Fixed t)) (c .before .enum-told7 .given .1))
 
 enum-told-8 : tie.Need-enum-told-8
 enum-told-8 c = search needs
@@ -82,7 +77,7 @@ slice-aggregate-stands-8 : tie.Need-slice-aggregate-stands-8
 slice-aggregate-stands-8 c = search needs
 
 stands-requires-8 : tie.Need-stands-requires-8
-stands-requires-8 c κs = omega (arith, ap wide (c .before .enum-told8 .given .1))
+stands-requires-8 c κs = omega (arith, ap (λ t. widthOf (Fixed t)) (c .before .enum-told8 .given .1))
 
 returns : tie.Need-returns
 returns c = rw (c .before .before .enum-told .given .1) (c .stands .ensures)

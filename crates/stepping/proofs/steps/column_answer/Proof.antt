@@ -1,11 +1,15 @@
 -- `column_answer`: by whether a column is due, whether the piece is long enough, and how it is judged.
-use Rattle.reading.proofs.Turns.{start-small}
+use Rattle.cells.proofs.ColumnPlaces.{start-small}
+use Rattle.answers.specs.Told.{more}
+use Rattle.columns.specs.declared.Judged.{Judged}
+use Rattle.reading.specs.Intake.{orRest}
 use Rattle.stepping.proofs.Pieces.{piece-past, piece-short, piece-judged}
 use Rattle.stepping.proofs.steps.column_answer.Statement.{statement}
 use Rattle.stepping.proofs.steps.column_answer.Tie as tie
+use Rattle.stepping.specs.Steps.{saidOfColumn}
 use borrow.Author.Needs.{needs}
 use lib.Seq.{length-take-le}
-use mathlib.Core.Path.{sym, _∙_}
+use mathlib.Core.Path.{_≡_, sym, _∙_}
 use native.Mathlib.Omega.{arith}
 
 add-end : tie.Need-add-end
@@ -16,28 +20,37 @@ end-requires c κs = search needs
 
 returns : tie.Need-returns
 returns c =
-    let a = c .before .before .before .before .before .before .args in
-    c .end .ensures ∙ sym (piece-past (a .grid) (a .voids) (a .next) (a .piece .now) (c .before .before .if1 .taken))
+    let a = c .before .before .before .before .before .before .before .args in
+    c .end .ensures ∙ sym (piece-past (a .frame) (a .next) (a .piece .now) (c .before .before .if1 .taken))
 
 mul-base : tie.Need-mul-base
-mul-base c = let a = c .before .before .before .before .args in omega (arith, start-small (a .next) (a .grid .bytes .column) (omega arith) (omega arith))
+mul-base c = let a = c .before .before .before .before .before .args in omega (arith, start-small (a .next) (a .frame .grid .bytes .column) (omega arith) (omega arith))
 
 add-base : tie.Need-add-base
-add-base c = let a = c .before .before .before .before .args in omega (arith, start-small (a .next) (a .grid .bytes .column) (omega arith) (omega arith))
+add-base c = let a = c .before .before .before .before .before .args in omega (arith, start-small (a .next) (a .frame .grid .bytes .column) (omega arith) (omega arith))
 
 returns-2 : tie.Need-returns-2
 returns-2 c =
-    let a = c .before .before .before .before .before .args in
-    sym (piece-short (a .grid) (a .voids) (a .next) (a .piece .now) (c .before .if1 .left) (c .if2 .taken))
+    let a = c .before .before .before .before .before .before .args in
+    sym (piece-short (a .frame) (a .next) (a .piece .now) (c .before .if1 .left) (c .if2 .taken))
 
 slice-aggregate-judge : tie.Need-slice-aggregate-judge
 slice-aggregate-judge c = sym (length-take-le _ _ (c .before .if2 .left))
 
 judge-requires : tie.Need-judge-requires
 judge-requires c κs =
-    let a = c .before .before .before .before .before .before .args in
-    let small = start-small (a .next) (a .grid .bytes .column) (omega arith) (omega arith) in
-    (length-take-le _ _ (c .before .if2 .left) ∙ omega arith, (omega arith, omega arith))
+    let a = c .before .before .before .before .before .before .before .args in
+    let small = start-small (a .next) (a .frame .grid .bytes .column) (omega arith) (omega arith) in
+    record { long = length-take-le _ _ (c .before .if2 .left) ∙ omega arith; few = omega arith; end = omega arith }
+
+-- where the column was judged x, the answer goes by x
+judged-as : (c : tie.After-judge) (x : Judged) → c .judge .result ≡ x →
+    let a = c .before .before .before .before .before .before .before .before .args in
+    saidOfColumn (a .frame) (a .next) (a .piece .now) ≡ orRest x more
+judged-as c x q =
+    let d = c .before .before in
+    let a = d .before .before .before .before .before .before .args in
+    piece-judged (a .frame) (a .next) (a .piece .now) (d .before .if1 .left) (d .if2 .left) x (rw (c .judge .ensures) at q)
 
 enum-told : tie.Need-enum-told
 enum-told c = search needs
@@ -46,18 +59,10 @@ enum-known-judged : tie.Need-enum-known-judged
 enum-known-judged c = search needs
 
 returns-3 : tie.Need-returns-3
-returns-3 c =
-    let j = c .before .before in
-    let d = j .before .before in
-    let a = d .before .before .before .before .before .args in
-    sym (piece-judged (a .grid) (a .voids) (a .next) (a .piece .now) (d .before .if1 .left) (d .if2 .left) _ (sym (j .judge .ensures) ∙ c .enum-told .given .1))
+returns-3 c = sym (judged-as (c .before .before) _ (c .enum-told .given .1))
 
 returns-4 : tie.Need-returns-4
-returns-4 c =
-    let j = c .before .before .before in
-    let d = j .before .before in
-    let a = d .before .before .before .before .before .args in
-    sym (piece-judged (a .grid) (a .voids) (a .next) (a .piece .now) (d .before .if1 .left) (d .if2 .left) _ (sym (j .judge .ensures) ∙ c .before .judged .given .1))
+returns-4 c = sym (judged-as (c .before .before .before) _ (c .before .judged .given .1))
 
 pub column-answer-spec : {M : Type 1} → statement M
 column-answer-spec =

@@ -1,7 +1,8 @@
 -- `column_wanted`: by whether there is such a grid, and whether a column is left.
-use Rattle.layout.proofs.Ranges.{Ranged, ranged, laid-out}
+use Rattle.layout.specs.Ranges.{Ranged}
 use Rattle.layout.specs.Grid.{laid}
 use Rattle.layout.specs.declared.Laid.the-variants.{Out}
+use Rattle.stepping.proofs.Pieces.{laid-ranged}
 use Rattle.stepping.proofs.steps.column_wanted.Statement.{statement}
 use Rattle.stepping.proofs.steps.column_wanted.Tie as tie
 use borrow.Author.Needs.{needs}
@@ -16,8 +17,7 @@ out c = sym (c .before .before .before .lay .ensures) ∙ c .before .laid .given
 within : (c : tie.After-known-told) → Ranged (c .before .laid .given .0 .0)
 within c =
     let a = c .before .before .before .before .args in
-    let l = laid-out (a .due .level) (a .due .edge) _ (out c) in
-    rw (l .1 .1) (ranged (a .due .level) (a .due .edge) (l .0) (l .1 .0))
+    laid-ranged (a .due .level) (a .due .edge) _ (out c)
 
 lay-requires : tie.Need-lay-requires
 lay-requires c κs = search needs

@@ -1,17 +1,16 @@
 -- `columns_answer`: by whether there is such a grid.
-use Rattle.layout.proofs.Ranges.{Ranged, ranged, laid-out}
+use Rattle.layout.specs.Ranges.{Ranged}
+use Rattle.stepping.proofs.Pieces.{laid-ranged}
 use Rattle.stepping.proofs.steps.columns_answer.Statement.{statement}
 use Rattle.stepping.proofs.steps.columns_answer.Tie as tie
 use borrow.Author.Needs.{needs}
 use mathlib.Core.Path.{sym, _∙_}
-use native.Mathlib.Omega.{arith}
 
 within : (c : tie.After-known-told) → Ranged (c .before .laid .given .0 .0)
 within c =
     let l = c .before .before .before in
     let a = l .before .before .args in
-    let out = laid-out (a .due .level) (a .due .edge) _ (sym (l .lay .ensures) ∙ c .before .laid .given .1) in
-    rw (out .1 .1) (ranged (a .due .level) (a .due .edge) (out .0) (out .1 .0))
+    laid-ranged (a .due .level) (a .due .edge) _ (sym (l .lay .ensures) ∙ c .before .laid .given .1)
 
 lay-requires : tie.Need-lay-requires
 lay-requires c κs = search needs
@@ -20,7 +19,7 @@ enum-known-laid : tie.Need-enum-known-laid
 enum-known-laid c = search needs
 
 column-answer-requires : tie.Need-column-answer-requires
-column-answer-requires c κs = omega (arith, within c)
+column-answer-requires c κs = within c
 
 enum-told : tie.Need-enum-told
 enum-told c = search needs

@@ -1,4 +1,5 @@
 -- `first_step`: by how the headers are judged.
+use Rattle.layout.specs.declared.Frame.{Frame}
 use Rattle.stepping.proofs.Kept.{headers-good, kept}
 use Rattle.stepping.proofs.steps.first_step.Statement.{statement}
 use Rattle.stepping.proofs.steps.first_step.Tie as tie
@@ -12,11 +13,11 @@ judge-requires c κs = search needs
 enum-known-judged : tie.Need-enum-known-judged
 enum-known-judged c = search needs
 
+frame-of-requires : tie.Need-frame-of-requires
+frame-of-requires c κs = search needs
+
 near-edge-requires : tie.Need-near-edge-requires
 near-edge-requires c κs = search needs
-
-may-hold-voids-requires : tie.Need-may-hold-voids-requires
-may-hold-voids-requires c κs = search needs
 
 enum-known-judged-2 : tie.Need-enum-known-judged-2
 enum-known-judged-2 c = search needs
@@ -27,7 +28,7 @@ over-requires c κs = search needs
 returns : tie.Need-returns
 returns c =
     let g = c .before .before .before .before in
-    headers-good _ _ _ _ (sym (g .before .before .judge .ensures) ∙ g .judged .given .1) (c .before .near-edge .ensures) (c .may-hold-voids .ensures)
+    headers-good _ _ _ _ (sym (g .before .before .judge .ensures) ∙ g .judged .given .1) (c .near-edge .ensures) (ap (λ (f : Frame). f .voids) (c .before .frame-of .ensures))
 
 returns-2 : tie.Need-returns-2
 returns-2 c =
@@ -40,8 +41,8 @@ first-step-spec =
     (tie.spec
     judge-requires
     enum-known-judged
+    frame-of-requires
     near-edge-requires
-    may-hold-voids-requires
     enum-known-judged-2
     over-requires
     returns

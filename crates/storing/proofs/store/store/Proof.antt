@@ -20,7 +20,7 @@ under c =
     let m = c .before .before in
     let s = m .before .before .before .before in
     let a = s .args in
-    omega (arith, m .sum .ensures, c .be32 .ensures, s .pre .1 .1 .1, post-under (a .column .now) (a .posts) (a .post) (a .word) (s .pre .0) (s .pre .1 .0))
+    omega (arith, m .sum .ensures, c .be32 .ensures, s .pre .checksum, post-under (a .column .now) (a .posts) (a .post) (a .word) (s .pre .long) (s .pre .inside))
 
 -- once the word was put
 module _ (c : tie.After-sum2) where
@@ -42,9 +42,9 @@ module _ (c : tie.After-sum2) where
   total : read .be32 .result - read .before .before .sum .result + c .sum2 .result ≡ sumOf (take (sumAt (start .args .posts)) after)
   total =
       let a = start .args in
-      sum-found (a .column .now) (a .posts) (a .post) (a .word) (start .pre .0) (start .pre .1 .0) (put .put16 .last .0) (put .put16 .ensures)
+      sum-found (a .column .now) (a .posts) (a .post) (a .word) (start .pre .long) (start .pre .inside) (put .put16 .last .0) (put .put16 .ensures)
       (read .be32 .result) (read .before .before .sum .result) (c .sum2 .result)
-      (read .be32 .ensures ∙ start .pre .1 .1 .1) (read .before .before .sum .ensures) (c .sum2 .ensures)
+      (read .be32 .ensures ∙ start .pre .checksum) (read .before .before .sum .ensures) (c .sum2 .ensures)
 
 mul-at : tie.Need-mul-at
 mul-at c = search needs
@@ -103,16 +103,16 @@ add-put32 c =
     let s = start t in
     let a = s .args in
     let l = put t .put16 .last .0 in
-    let long = put t .put16 .kept .0 ∙ s .pre .0 in
+    let long = put t .put16 .kept .0 ∙ s .pre .long in
     let first = read t .before .before .before .before .before in
     omega (
       arith,
       t .sum2 .ensures,
-      post-under l (a .posts) (a .post) (a .word) long (s .pre .1 .0),
-      sum-small l (sumAt (a .posts)) (a .posts) long (s .pre .1 .1 .0) (λ i. known t .slice-known2 .given i .fits),
+      post-under l (a .posts) (a .post) (a .word) long (s .pre .inside),
+      sum-small l (sumAt (a .posts)) (a .posts) long (s .pre .few) (λ i. known t .slice-known2 .given i .fits),
       read t .be32 .ensures,
-      s .pre .1 .1 .1,
-      sum-small (a .column .now) (sumAt (a .posts)) (a .posts) (s .pre .0) (s .pre .1 .1 .0) (λ i. first .slice-known .given i .fits),
+      s .pre .checksum,
+      sum-small (a .column .now) (sumAt (a .posts)) (a .posts) (s .pre .long) (s .pre .few) (λ i. first .slice-known .given i .fits),
     )
 
 put32-requires : tie.Need-put32-requires

@@ -10,7 +10,7 @@ returns : tie.Need-returns
 returns c = sym (no-level _ _ (c .if1 .taken))
 
 grid-of-requires : tie.Need-grid-of-requires
-grid-of-requires c κs = (c .if1 .left, omega arith)
+grid-of-requires c κs = record { level = c .if1 .left; edge = omega arith }
 
 returns-2 : tie.Need-returns-2
 unfolding gridOf

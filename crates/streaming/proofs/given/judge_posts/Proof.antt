@@ -1,21 +1,29 @@
--- `judge_posts`: the number of posts, then the heights.
+-- `judge_posts`: how many are given, then each of them and the room.
+use Rattle.sources.specs.Given.{given}
+use Rattle.sources.proofs.GivenLaws.{counts-only, counted}
 use Rattle.streaming.proofs.given.judge_posts.Statement.{statement}
 use Rattle.streaming.proofs.given.judge_posts.Tie as tie
 use Rattle.streaming.specs.Given.{judgedPosts}
 use borrow.Author.Needs.{needs}
-use borrow.Author.Tests.{eq-eqb, ne-eqb}
-use mathlib.Core.Path.{_∙_}
+use borrow.Author.Tests.{not-true, not-false}
+use mathlib.Core.Path.{sym, _∙_}
+
+are-given-requires : tie.Need-are-given-requires
+are-given-requires c κs = search needs
 
 returns : tie.Need-returns
 unfolding judgedPosts
-returns c = simp (ne-eqb _ _ (c .if1 .taken))
+returns c = rw (sym (c .before .are-given .ensures) ∙ not-true _ (c .if1 .taken))
 
 judge-heights-requires : tie.Need-judge-heights-requires
-judge-heights-requires c κs = search needs
+judge-heights-requires c κs =
+    let a = c .before .before .before .args in
+    let g = given (a .source) (a .numbers .now) (a .bytes .now) in
+    counted g (a .posts) (counts-only g (a .posts) (sym (c .before .are-given .ensures) ∙ not-false _ (c .if1 .left)))
 
 returns-2 : tie.Need-returns-2
 unfolding judgedPosts
-returns-2 c = c .judge-heights .ensures ∙ simp (eq-eqb _ _ (c .before .if1 .left))
+returns-2 c = rw (sym (c .before .before .are-given .ensures) ∙ not-false _ (c .before .if1 .left)) (c .judge-heights .ensures)
 
 pub judge-posts-spec : {M : Type 1} → statement M
-judge-posts-spec = tie.close (tie.spec returns judge-heights-requires returns-2)
+judge-posts-spec = tie.close (tie.spec are-given-requires returns judge-heights-requires returns-2)

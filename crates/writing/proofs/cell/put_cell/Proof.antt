@@ -1,33 +1,48 @@
 -- `put_cell`: the headers at the front, and the columns behind them.
+use Rattle.answers.specs.declared.Outcome.the-variants.{Done}
+use Rattle.cells.specs.Grid.{columnsWritten, afresh}
+use Rattle.columns.specs.Column.{wordsOf}
 use Rattle.composing.proofs.WrittenLength.{length-headers}
 use Rattle.composing.specs.Written.{headersFor}
-use Rattle.answers.specs.declared.Outcome.the-variants.{Done}
+use Rattle.describing.specs.Facts.{factsFor}
 use Rattle.layout.specs.declared.Grid.{Grid}
-use Rattle.layout.proofs.Ranges.{Ranged}
+use Rattle.layout.specs.Ranges.{Ranged}
 use Rattle.octets.proofs.PasteLaws.{length-part}
-use Rattle.writing.proofs.ColumnParts.{length-columns}
-use Rattle.writing.proofs.GridDue.{due-ranged, columns-bytes}
+use Rattle.sources.specs.Given.{Given, given, heightsOf}
+use Rattle.sources.proofs.GivenLaws.{length-words-given}
 use Rattle.streaming.proofs.OutputPut.{behind-put}
+use Rattle.streaming.specs.Given.{outputAfter}
+use Rattle.writing.proofs.GridDue.{due-ranged, columns-bytes}
+use Rattle.writing.proofs.SoFar.{length-columns}
 use Rattle.writing.proofs.cell.put_cell.Statement.{statement}
 use Rattle.writing.proofs.cell.put_cell.Tie as tie
+use Rattle.writing.specs.Asked.{CellFits}
 use Rattle.writing.specs.Cell.{cellOf}
-use Rattle.streaming.specs.Given.{outputAfter}
-use Rattle.writing.specs.Grid.{columnsWritten, afresh}
 use borrow.Author.Needs.{needs}
 use mathlib.Core.Path.{ap, _∙_}
 use native.Mathlib.Omega.{arith}
 
-within : (s : tie.Start) → Ranged (s .args .grid)
-within s = due-ranged (s .args .d) (s .pre .0) (s .args .grid) (s .pre .1 .0)
+module _ (s : tie.Start) where
+  abbrev source : Given
+  source = given (s .args .source) (s .args .numbers .now) (s .args .bytes .now)
+
+  abbrev fits : CellFits (s .args .out .now) (s .args .d) (s .args .grid) source
+  fits = s .pre
+
+  within : Ranged (s .args .grid)
+  within = due-ranged (s .args .d) (fits .ranged) (s .args .grid) (fits .due)
 
 put-headers-requires : tie.Need-put-headers-requires
-put-headers-requires c κs = let s = c .before .before .before in (omega (arith, within s .cell, s .pre .1 .1 .1), s .pre .0)
+unfolding factsFor
+put-headers-requires c κs =
+    let s = c .before .before .before .before in
+    record { room = omega (arith, within s .cell, fits s .room); ranged = fits s .ranged; grid = fits s .due }
 
 sub-put-columns : tie.Need-sub-put-columns
-sub-put-columns c = let s = c .before .before .before .before .before .before in omega (arith, within s .cell)
+sub-put-columns c = let s = c .before .before .before .before .before .before .before in omega (arith, within s .cell)
 
 part-put-columns-start : tie.Need-part-put-columns-start
-part-put-columns-start c = let s = c .before .before .before .before .before .before in omega (arith, within s .cell)
+part-put-columns-start c = let s = c .before .before .before .before .before .before .before in omega (arith, within s .cell)
 
 part-put-columns-end : tie.Need-part-put-columns-end
 part-put-columns-end c = search needs
@@ -35,11 +50,16 @@ part-put-columns-end c = search needs
 put-columns-requires : tie.Need-put-columns-requires
 put-columns-requires c κs =
     let h = c .before .before .before in
-    let s = h .before .before .before .before in
+    let s = h .before .before .before .before .before in
     let r = within s in
     let kept = h .put-headers .kept .0 in
-    let part = length-part (h .put-headers .last .0) 3428 (s .args .grid .bytes .cell) (omega (arith, r .cell)) (omega (arith, kept, s .pre .1 .1 .1)) in
-    (part ∙ omega (arith, columns-bytes (s .args .grid) r), (s .pre .1 .1 .0, (r .columns-high, r .posts-high)))
+    let part = length-part (h .put-headers .last .0) 3428 (s .args .grid .bytes .cell) (omega (arith, r .cell)) (omega (arith, kept, fits s .room)) in
+    record {
+      long = part ∙ omega (arith, columns-bytes (s .args .grid) r);
+      all = fits s .all;
+      columns-high = r .columns-high;
+      posts-high = r .posts-high;
+    }
 
 same-length : tie.Need-same-length
 same-length c = search needs
@@ -49,16 +69,16 @@ unfolding cellOf
 returns c =
     let k = c .before .before in
     let h = k .before .before .before .before in
-    let s = h .before .before .before .before in
+    let s = h .before .before .before .before .before in
     let g = s .args .grid in
-    let zs = s .args .heights .now in
+    let zs = heightsOf (source s) in
     let r = within s in
-    let long = length-columns (g .posts) (g .columns) zs (s .pre .1 .1 .0) (g .columns) (omega arith) in
+    let long = length-columns (g .posts) (g .columns) (wordsOf zs) (length-words-given (source s) ∙ fits s .all) (g .columns) (omega arith) in
     let out = s .args .out .now in
     behind-put out (headersFor (s .args .d)) (h .put-headers .last .0) (columnsWritten (g .posts) zs (g .columns)) (k .put-columns .last .0) 3428 (g .bytes .cell)
-    (length-headers (s .args .d)) (omega (arith, r .cell, s .pre .1 .1 .1)) (omega (arith, long, columns-bytes g r))
+    (length-headers (s .args .d)) (omega (arith, r .cell, fits s .room)) (omega (arith, long, columns-bytes g r))
     (h .put-headers .ensures) (k .put-columns .ensures)
-    ∙ ap (λ (x : Grid). outputAfter Done (afresh (headersFor (s .args .d)) x zs) out) (s .pre .1 .0)
+    ∙ ap (λ (x : Grid). outputAfter Done (afresh (headersFor (s .args .d)) x zs) out) (fits s .due)
 
 pub put-cell-spec : {M : Type 1} → statement M
 put-cell-spec =

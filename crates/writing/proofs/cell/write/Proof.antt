@@ -1,77 +1,65 @@
--- `write` of a cell: judged, and put at the front where it was accepted.
+-- `write` of a cell: the lowest bad item, or as it is written under items in range.
 use Rattle.answers.specs.Told.{told, act}
 use Rattle.answers.specs.declared.Outcome.{Outcome}
-use Rattle.answers.specs.declared.Outcome.the-variants.{Done}
-use Rattle.headers.specs.declared.Facts.{Facts}
-use Rattle.writing.proofs.CellExactly.{Ready, ready}
+use Rattle.describing.proofs.RangedItems.{item-exactly}
+use Rattle.describing.specs.Items.{badItem, inRange}
+use Rattle.sources.specs.Given.{numbers, heightsOf}
+use Rattle.sources.proofs.GivenLaws.{numbers-are}
+use Rattle.streaming.specs.Given.{outputAfter}
+use Rattle.writing.proofs.CellExactly.{items-fine}
+use Rattle.writing.proofs.ItemExactly.{found-bad}
 use Rattle.writing.proofs.cell.write.Statement.{statement}
 use Rattle.writing.proofs.cell.write.Tie as tie
-use Rattle.writing.specs.Cell.{postsDue, judgedCell, cellOf, cellTold, cellOutput}
-use Rattle.streaming.specs.Given.{outputAfter}
+use Rattle.writing.specs.Cell.{frameFor, judgedUnder, judgedCell, cellOf, cellTold, cellOutput}
 use borrow.Author.Needs.{needs}
+use lib.IntN.{ℤ}
 use lib.ListN.{length}
+use mathlib.Core.Bool.{true}
+use mathlib.Core.List.{List}
 use mathlib.Core.Path.{_≡_, sym, ap, _∙_}
+use native.Mathlib.Omega.{arith}
 
--- the call was accepted
-module _ (c : tie.After-enum-told) where
-  abbrev start : tie.Start
-  start = c .before .before .before .before
+-- no item is out of range
+module _ (c : tie.Else1) where
+  no-bad : badItem (c .before .before .before .args .d) ≡ 0
+  no-bad = sym (c .before .bad-item .ensures) ∙ omega (arith, c .if1 .left)
 
-  done : judgedCell (start .args .d) (start .args .heights .now) (length (start .args .out .now)) ≡ Done
-  done = sym (c .before .before .judge .ensures) ∙ c .enum-told .given .1
+  in-range : inRange (c .before .before .before .args .d) ≡ true
+  in-range = item-exactly (c .before .before .before .args .d) .0 .0 no-bad
 
-  fine : Ready (start .args .d) (start .args .heights .now) (length (start .args .out .now))
-  fine = ready _ _ _ done
+bad-item-requires : tie.Need-bad-item-requires
+bad-item-requires c κs = search needs
 
-judge-requires : tie.Need-judge-requires
-judge-requires c κs = search needs
+returns : tie.Need-returns
+unfolding cellTold cellOutput judgedCell
+returns c =
+    let a = c .before .before .before .args in
+    let refused = found-bad (c .before .bad-item .result) (badItem (a .d)) (judgedUnder (frameFor (a .d)) (numbers (a .heights .now)) (length (a .out .now))) (c .before .bad-item .ensures) (c .if1 .taken) in
+    (ap (told act) refused, ap (λ (x : Outcome). outputAfter x (cellOf (a .d) (a .heights .now)) (a .out .now)) refused)
 
-enum-told : tie.Need-enum-told
-enum-told c = search needs
+slice-aggregate-write-under : tie.Need-slice-aggregate-write-under
+slice-aggregate-write-under c = search needs
 
-facts-for-requires : tie.Need-facts-for-requires
-facts-for-requires c κs = fine c .ranged
-
-put-cell-requires : tie.Need-put-cell-requires
-put-cell-requires c κs =
-    let f = fine (c .before .before) in
-    let same = ap (λ (x : Facts). x .grid) (c .before .facts-for .ensures) in
-    (f .ranged, (same, (f .fine .long ∙ ap postsDue (sym same), rw same (f .fine .roomy))))
-
-enum-told-2 : tie.Need-enum-told-2
-enum-told-2 c = search needs
+write-under-requires : tie.Need-write-under-requires
+write-under-requires c κs = in-range (c .before .before)
 
 same-length : tie.Need-same-length
 same-length c = search needs
 
-returns : tie.Need-returns
-unfolding cellTold cellOutput
-returns c =
-    let p = c .before .before in
-    let e = p .before .before .before in
-    let a = start e .args in (
-      ap (told act) (e .before .before .judge .ensures),
-      p .put-cell .ensures ∙ ap (λ (x : Outcome). outputAfter x (cellOf (a .d) (a .heights .now)) (a .out .now)) (sym (done e)),
-    )
-
 returns-2 : tie.Need-returns-2
 unfolding cellTold cellOutput
 returns-2 c =
-    let j = c .before .before in
-    let a = j .before .before .args in (
-      ap (told act) (j .judge .ensures),
-      ap (λ (x : Outcome). outputAfter x (cellOf (a .d) (a .heights .now)) (a .out .now)) (sym (c .enum-told2 .given .1) ∙ j .judge .ensures),
+    let w = c .before .before in
+    let e = w .before .before .before in
+    let a = e .before .before .before .args in
+    let g = numbers (a .heights .now) in
+    let judged = sym (items-fine (a .d) g (length (a .out .now)) (no-bad e)) in (
+      ap (told act) (w .write-under .ensures .0 ∙ judged),
+      w .write-under .ensures .1
+          ∙ ap (λ (x : Outcome). outputAfter x (cellOf (a .d) (heightsOf g)) (a .out .now)) judged
+          ∙ ap (λ (zs : List ℤ). outputAfter (judgedCell (a .d) g (length (a .out .now))) (cellOf (a .d) zs) (a .out .now)) (numbers-are (a .heights .now)),
     )
 
 pub write-spec : {M : Type 1} → statement M
 write-spec =
-    tie.close
-    (tie.spec
-    judge-requires
-    enum-told
-    facts-for-requires
-    put-cell-requires
-    enum-told-2
-    same-length
-    returns
-    returns-2)
+    tie.close (tie.spec bad-item-requires returns slice-aggregate-write-under write-under-requires same-length returns-2)

@@ -1,0 +1,80 @@
+-- Headers that give a frame, and words that it allows, are the same thing as an accepted cell.
+use Prim.Native.Nat.{ℕ, _<_, _≤_}
+use native.Mathlib.Omega.{arith}
+use mathlib.Core.Path.{_≡_, sym, ap, _∙_}
+use mathlib.Core.List.{List, _++_}
+use lib.ListN.{length, take, length-append}
+use lib.Seq.{take-at, take-take, take-all, length-take-le}
+use Rattle.octets.specs.Numbers.{Bytes}
+use Rattle.octets.specs.Parts.{part, joined}
+use Rattle.octets.specs.Pastes.{pasted}
+use Rattle.layout.specs.Grid.{headerBytes}
+use Rattle.layout.specs.declared.Frame.{Frame}
+use Rattle.layout.specs.Ranges.{Ranged}
+use Rattle.headers.specs.Judged.{judged, factsIn, frameOf, frameIn, Follows}
+use Rattle.headers.specs.declared.Facts.{Facts}
+use Rattle.headers.specs.declared.Judged.the-variants.{Good}
+use Rattle.headers.proofs.Exactly.{good-follows, follows-good}
+use Rattle.headers.proofs.FirstFour.{GoodFacts, good-facts}
+use Rattle.headers.proofs.SameHeaders.{same-headers}
+use Rattle.columns.specs.Column.{columnOfWords, GoodColumn}
+use Rattle.cells.specs.Cell.{startOf, Framed, Cell}
+use Rattle.cells.specs.Words.{cellOfWords, wordsUnder, wordsOfCell}
+use Rattle.cells.proofs.FramedWords.{Made, made-framed, words-there, framed-made, framed-is, put-made, put-is}
+
+-- good headers, whose frame this is
+pub record Headed (f : Frame) (h : List ℕ) : Type 0 where
+  pub facts : Facts
+  pub good : judged h ≡ Good facts
+  pub frame : frameOf facts ≡ f
+
+pub headed-range : (f : Frame) (h : List ℕ) → Headed f h → Ranged (f .grid)
+headed-range f h headed = rw (← headed .frame) (good-facts h (headed .facts) (headed .good) .grid)
+
+module _ (f : Frame) (h ws : List ℕ) (headed : Headed f h) (made : Made f h ws) where
+  -- headers say what they say, whatever follows them
+  follows : Follows (cellOfWords h (f .grid) ws) × (headed .facts ≡ factsIn (cellOfWords h (f .grid) ws))
+  follows =
+      let rest = joined (λ (k : ℕ). columnOfWords k (part (f .grid .posts) ws k)) (f .grid .columns) in
+      let long = made .front in
+      let alike : take 3428 (h ++ rest) ≡ take 3428 h = take-at h rest 3428 long ∙ sym (take-all 3428 h (omega arith)) in
+      good-follows (h ++ rest) (headed .facts) (same-headers (h ++ rest) h (rw length-append (omega arith)) (omega arith) alike ∙ headed .good)
+
+  pub made-frame : frameIn (cellOfWords h (f .grid) ws) ≡ f
+  made-frame = ap frameOf (sym (follows .1)) ∙ headed .frame
+
+  pub made-cell : Cell (cellOfWords h (f .grid) ws)
+  made-cell = record { headers = follows .0; framed = rw made-frame (made-framed f h ws made) }
+
+  pub made-words : wordsOfCell (cellOfWords h (f .grid) ws) ≡ ws
+  made-words = ap (λ (x : Frame). wordsUnder (x .grid) (cellOfWords h (f .grid) ws)) made-frame ∙ words-there f h ws made
+
+module _ (s : List ℕ) (cell : Cell s) where
+  -- what the headers of a cell say is within its ranges
+  pub cell-facts : GoodFacts s (factsIn s)
+  cell-facts = good-facts s (factsIn s) (follows-good s (cell .headers))
+
+  -- an accepted cell is made of its headers and its words
+  pub cell-headed : Headed (frameIn s) (take headerBytes s)
+  cell-headed =
+      let enough : 3428 ≤ length s = cell .headers .0 in
+      let long : length (take 3428 s) ≡ 3428 = length-take-le 3428 s enough in
+      record {
+        facts = factsIn s;
+        good = same-headers (take 3428 s) s (omega arith) enough (take-take 3428 3428 s (omega arith)) ∙ follows-good s (cell .headers);
+        frame = λ i. frameIn s;
+      }
+
+  pub cell-made : Made (frameIn s) (take headerBytes s) (wordsOfCell s)
+  cell-made = framed-made (frameIn s) (cell-facts .grid) s (cell .framed)
+
+  pub cell-remade : Bytes s → cellOfWords (take headerBytes s) (frameIn s .grid) (wordsOfCell s) ≡ s
+  cell-remade = framed-is (frameIn s) (cell-facts .grid) s (cell .framed)
+
+  -- one good column replaced by another of its number leaves a cell a cell
+  pub put-cell : Bytes s → (c : ℕ) → c < frameIn s .grid .columns → (column : List ℕ) → Bytes column
+      → GoodColumn column c (frameIn s .grid .posts) (frameIn s .voids) → Cell (pasted s (startOf (frameIn s .grid) c) column)
+  put-cell bytes c u column column-bytes good =
+      let range = cell-facts .grid in
+      rw (put-is (frameIn s) range s (cell .framed) c u column good bytes column-bytes)
+      (made-cell (frameIn s) (take headerBytes s) _ cell-headed (put-made (frameIn s) range s (cell .framed) c u column good))

@@ -1,0 +1,2 @@
+-- Heights as writers are given them.
+pub mod Given

@@ -1,0 +1,157 @@
+-- `write_given`: a column of the level is judged, and put at the front where it was accepted.
+use Prim.Native.Nat.{ℕ, _+_, _*_}
+use Rattle.answers.specs.Told.{told, act}
+use Rattle.answers.specs.declared.Outcome.{Outcome}
+use Rattle.answers.specs.declared.Outcome.the-variants.{Done}
+use Rattle.columns.specs.Column.{columnOfWords, columnOf}
+use Rattle.columns.proofs.ColumnHeights.{length-written}
+use Rattle.layout.specs.Ranges.{Ranged}
+use Rattle.octets.proofs.PasteLaws.{length-part}
+use Rattle.sources.specs.Given.{Given, given, countOf, heightsOf}
+use Rattle.sources.proofs.GivenLaws.{counted, length-given, all-given}
+use Rattle.streaming.proofs.ColumnExactly.{judged-on}
+use Rattle.streaming.proofs.GivenExactly.{Fine, given-fine}
+use Rattle.streaming.proofs.NumberExactly.{placed-on, placed-ranged, number-small}
+use Rattle.streaming.proofs.OutputPut.{front-put}
+use Rattle.streaming.proofs.column.write_given.Statement.{statement}
+use Rattle.streaming.proofs.column.write_given.Tie as tie
+use Rattle.streaming.specs.Column.{placed, afterNumber, judgedColumn, givenTold, givenOutput}
+use Rattle.streaming.specs.Given.{outputAfter}
+use Rattle.streaming.specs.declared.column.Placed.the-variants.{On}
+use borrow.Author.Needs.{needs}
+use lib.ListN.{length}
+use mathlib.Core.Bool.{true}
+use mathlib.Core.List.{List}
+use mathlib.Core.Path.{_≡_, refl, sym, ap, _∙_}
+use native.Mathlib.Omega.{arith}
+
+-- the column was placed on a grid
+module _ (c : tie.After-grid) where
+  abbrev start : tie.Start
+  start = c .before .before .before .before .before
+
+  abbrev posts : ℕ
+  posts = c .grid .given .0 .0 .posts
+
+  abbrev source : Given
+  source = given (start .args .source) (start .args .numbers .now) (start .args .bytes .now)
+
+  on : placed (start .args .level) (start .args .number) ≡ On (c .grid .given .0 .0)
+  on = sym (c .before .before .place .ensures) ∙ c .grid .given .1
+
+  range : Ranged (c .grid .given .0 .0)
+  range = placed-ranged _ _ _ on
+
+-- it was judged as the call's order says
+judged-is : (c : tie.After-judge-posts) →
+    let g = c .before .before in
+    c .judge-posts .result ≡ judgedColumn (start g .args .level) (start g .args .number) (source g) (length (start g .args .out .now))
+judged-is c =
+    let g = c .before .before in
+    c .judge-posts .ensures ∙ judged-on (start g .args .level) (start g .args .number) (source g) (length (start g .args .out .now)) (g .grid .given .0 .0) (on g)
+
+-- and accepted
+fine : (c : tie.After-enum-told) →
+    let g = c .before .before .before .before in
+    Fine (posts g) (12 + 2 * posts g) true (source g) (length (start g .args .out .now))
+fine c = given-fine _ _ _ _ _ (sym (c .before .before .judge-posts .ensures) ∙ c .enum-told .given .1)
+
+place-requires : tie.Need-place-requires
+place-requires c κs = search needs
+
+enum-known-grid : tie.Need-enum-known-grid
+enum-known-grid c = search needs
+
+mul-end : tie.Need-mul-end
+mul-end c = omega (arith, range (c .before) .posts-high)
+
+add-end : tie.Need-add-end
+add-end c = omega (arith, range (c .before) .posts-high)
+
+judge-posts-requires : tie.Need-judge-posts-requires
+judge-posts-requires c κs = search needs
+
+enum-told : tie.Need-enum-told
+enum-told c = search needs
+
+sub-put-column : tie.Need-sub-put-column
+sub-put-column c = search needs
+
+part-put-column-start : tie.Need-part-put-column-start
+part-put-column-start c = search needs
+
+part-put-column-end : tie.Need-part-put-column-end
+part-put-column-end c = fine c .roomy
+
+put-column-requires : tie.Need-put-column-requires
+put-column-requires c κs =
+    let e = c .before in
+    let g = e .before .before .before .before in
+    let o = placed-on _ _ _ (on g) in
+    record {
+      heights = record { there = omega (arith, counted (source g) (posts g) (fine e .long)); end = omega (arith, range g .posts-high) };
+      long = length-part (start g .args .out .now) 0 (12 + 2 * posts g) (omega arith) (fine e .roomy) ∙ omega arith;
+      few = range g .posts-high;
+      small = number-small _ _ (o .0) (o .1 .0) .1;
+    }
+
+enum-told-2 : tie.Need-enum-told-2
+enum-told-2 c = search needs
+
+enum-known-refusal : tie.Need-enum-known-refusal
+enum-known-refusal c = search needs
+
+same-length : tie.Need-same-length
+same-length c = search needs
+
+returns : tie.Need-returns
+unfolding givenTold givenOutput
+returns c =
+    let p = c .before .before in
+    let e = p .before .before in
+    let j = e .before .before in
+    let g = j .before .before in
+    let a = start g .args in
+    let column = columnOf (a .number) (heightsOf (source g)) in
+    let n = counted (source g) (posts g) (fine e .long) in
+    let long : length column ≡ 12 + 2 * posts g = length-written (a .number) (heightsOf (source g)) ∙ omega (arith, length-given (source g), n) in (
+      ap (told act) (judged-is j),
+      front-put (a .out .now) column (p .put-column .last .0) (12 + 2 * posts g) long
+          (p .put-column .ensures ∙ ap (columnOfWords (a .number)) (all-given (source g) (posts g) n))
+          ∙ ap (λ (x : Outcome). outputAfter x column (a .out .now)) (sym (c .before .before .before .before .enum-told .given .1) ∙ judged-is j),
+    )
+
+returns-2 : tie.Need-returns-2
+unfolding givenTold givenOutput
+returns-2 c =
+    let j = c .before .before in
+    let g = j .before .before in
+    let a = start g .args in (
+      ap (told act) (judged-is j),
+      ap (λ (x : Outcome). outputAfter x (columnOf (a .number) (heightsOf (source g))) (a .out .now)) (sym (c .enum-told2 .given .1) ∙ judged-is j),
+    )
+
+returns-3 : tie.Need-returns-3
+unfolding givenTold givenOutput judgedColumn afterNumber
+returns-3 c = rw (sym (c .before .before .before .place .ensures) ∙ c .before .refusal .given .1) (refl, refl)
+
+pub write-given-spec : {M : Type 1} → statement M
+write-given-spec =
+    tie.close
+    (tie.spec
+    place-requires
+    enum-known-grid
+    mul-end
+    add-end
+    judge-posts-requires
+    enum-told
+    sub-put-column
+    part-put-column-start
+    part-put-column-end
+    put-column-requires
+    enum-told-2
+    enum-known-refusal
+    same-length
+    returns
+    returns-2
+    returns-3)

@@ -1,3 +1,0 @@
--- The laws of heights in bytes.
-pub mod HeightBytes
-pub mod GivenBytes

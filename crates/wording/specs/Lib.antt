@@ -1,3 +1,0 @@
--- Heights in bytes, and what the writers judge of them.
-pub mod Words
-pub mod Given
