@@ -203,29 +203,37 @@ GDAL_CFLAGS ?= $(shell pkg-config --cflags gdal 2>/dev/null)
 GDAL_LIBS ?= $(shell pkg-config --libs gdal 2>/dev/null)
 BENCH_FLAGS := -std=c11 -Wall -Wextra -Wpedantic -Werror -O3 -Iinclude
 BENCH_PARTS := bench report plain limit same gdal_calls
-BENCH_OBJECTS = $(BENCH_PARTS:%=target/bench/%.o) $(if $(SECOND_CC),target/bench/second.o)
+# make bench OLD=path: beside another archive of the library, in one run
+BENCH = target/bench$(if $(OLD),-beside)
+BENCH_OBJECTS = $(BENCH_PARTS:%=$(BENCH)/%.o) $(if $(SECOND_CC),$(BENCH)/second.o) $(if $(OLD),$(BENCH)/old.a)
 ifeq ($(shell uname -m),x86_64)
 BENCH_ARCHIVE = $(LINKED)
 else
 BENCH_ARCHIVE = target/native/libdted.a
 endif
 
-bench: target/bench/bench
+bench: $(BENCH)/bench
 	@bench/run $<
 
 # bench/last.txt, docs/figures.svg and the tables of docs/FIGURES.md
-figures: target/bench/bench
+figures: $(BENCH)/bench
 	@bench/figures $<
 
-target/bench/bench: $(BENCH_OBJECTS) $(BENCH_ARCHIVE)
+# its names with old_ before them, but for the C library's
+$(BENCH)/old.a: $(OLD)
+	@mkdir -p $(@D)
+	objcopy --prefix-symbols=old_ $< $@
+	objcopy --redefine-sym old_memset=memset --redefine-sym old_memcpy=memcpy $@
+
+$(BENCH)/bench: $(BENCH_OBJECTS) $(BENCH_ARCHIVE)
 	$(BENCH_CC) $^ $(GDAL_LIBS) -o $@
 
-target/bench/%.o: bench/%.c $(wildcard bench/*.h) include/dted.h
+$(BENCH)/%.o: bench/%.c $(wildcard bench/*.h) include/dted.h
 	@mkdir -p $(@D)
-	$(BENCH_CC) $(BENCH_FLAGS) $(if $(SECOND_CC),-DWITH_SECOND) $(if $(GDAL_LIBS),-DWITH_GDAL $(GDAL_CFLAGS:-I%=-isystem %)) -c $< -o $@
+	$(BENCH_CC) $(BENCH_FLAGS) $(if $(SECOND_CC),-DWITH_SECOND) $(if $(OLD),-DWITH_OLD) $(if $(GDAL_LIBS),-DWITH_GDAL $(GDAL_CFLAGS:-I%=-isystem %)) -c $< -o $@
 
 # plain.c by another compiler, under other names
-target/bench/second.o: bench/plain.c bench/plain.h include/dted.h
+$(BENCH)/second.o: bench/plain.c bench/plain.h include/dted.h
 	@mkdir -p $(@D)
 	$(SECOND_CC) $(BENCH_FLAGS) $(foreach call,intake post edit write compiler,-Dplain_$(call)=second_$(call)) -c $< -o $@
 

@@ -15,11 +15,16 @@
 #include <string.h>
 #include <time.h>
 
-enum { PICKS = 3601, SETS = 3, LAPS = 40 };
+enum { PICKS = 3601, SETS = 4, LAPS = 50 };
 
 /* plain.c once more, by another compiler */
 #ifdef WITH_SECOND
 PLAIN_CALLS(second);
+#endif
+
+/* another archive of the library, its names with old_ before them */
+#ifdef WITH_OLD
+PLAIN_CALLS(old_dted);
 #endif
 
 static const struct calls sets[] = {
@@ -27,6 +32,9 @@ static const struct calls sets[] = {
     {"plain C", plain_intake, plain_post, plain_edit, plain_write},
 #ifdef WITH_SECOND
     {"plain C, second", second_intake, second_post, second_edit, second_write},
+#endif
+#ifdef WITH_OLD
+    {"other archive", old_dted_intake, old_dted_post, old_dted_edit, old_dted_write},
 #endif
 };
 enum { SET_COUNT = sizeof sets / sizeof *sets };

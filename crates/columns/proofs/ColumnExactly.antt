@@ -11,7 +11,7 @@ use Rattle.octets.proofs.ChoiceLaws.{by-equal}
 use Rattle.octets.proofs.SearchLaws.{Before, first-found, none-found, Searched, all, first, searched}
 use Rattle.posts.specs.Words.{wordAllowed}
 use Rattle.answers.specs.declared.Refusal.the-variants.{Preamble, Checksum, Word}
-use Rattle.columns.specs.Column.{wordAt, sumAt, wordIn, PreambleRight, Sealed}
+use Rattle.columns.specs.Column.{wordAt, sumAt, wordIn, PreambleRight, Summed, Sealed}
 use Rattle.columns.specs.Judged.{headOf, wordsFrom, judgedColumn}
 use Rattle.columns.specs.declared.Judged.{Judged}
 use Rattle.columns.specs.declared.Judged.the-variants.{Good, Refused}
@@ -29,7 +29,7 @@ pub data Row (s : List ℕ) (k posts : ℕ) (voids : Bool) (base : ℕ) : Judged
   latitude : getD s 0 0 ≡ 170 → numberAt s 1 3 ≡ k → numberAt s 4 2 ≡ k → (numberAt s 6 2 ≡ 0 → ⊥)
       → Row s k posts voids base (Refused (Preamble (base + 6)))
   -- 5
-  checksum : PreambleRight s k → (numberAt s (sumAt posts) 4 ≡ sumOf (take (sumAt posts) s) → ⊥)
+  checksum : PreambleRight s k → (Summed s posts → ⊥)
       → Row s k posts voids base (Refused (Checksum (base + sumAt posts)))
   -- 6
   word : Sealed s k posts → (i : ℕ) → i < posts → wordAllowed voids (wordIn s i) ≡ false → AllowedBefore s voids i

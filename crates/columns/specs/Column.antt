@@ -55,10 +55,14 @@ pub record PreambleRight (s : List ℕ) (k : ℕ) : Type 0 where
   pub longitude : numberAt s 4 2 ≡ k
   pub latitude : numberAt s 6 2 ≡ 0
 
--- C4: and so is the checksum, whatever the words are
+-- C4: the checksum of so many posts is the sum of what stands before it
+abbrev pub Summed : List ℕ → ℕ → Type 0
+Summed s posts = numberAt s (sumAt posts) 4 ≡ sumOf (take (sumAt posts) s)
+
+-- C1, C2, C4: preamble and checksum are right, whatever the words are
 pub record Sealed (s : List ℕ) (k posts : ℕ) : Type 0 where
   pub preamble : PreambleRight s k
-  pub checksum : numberAt s (sumAt posts) 4 ≡ sumOf (take (sumAt posts) s)
+  pub checksum : Summed s posts
 
 -- C1 to C4, P4: the bytes are a good column k
 pub record GoodColumn (s : List ℕ) (k posts : ℕ) (voids : Bool) : Type 0 where

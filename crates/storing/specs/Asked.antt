@@ -2,14 +2,12 @@
 use Prim.Native.Nat.{ℕ, _+_, _*_, _<_, _≤_}
 use mathlib.Core.Path.{_≡_}
 use mathlib.Core.List.{List}
-use lib.ListN.{length, take}
-use Rattle.octets.specs.Numbers.{numberAt}
-use Rattle.octets.specs.Sums.{sumOf}
-use Rattle.columns.specs.Column.{sumAt}
+use lib.ListN.{length}
+use Rattle.columns.specs.Column.{Summed}
 
 -- a column of so many posts, not too many, with its checksum right, and one of its posts
 pub record Storable (s : List ℕ) (posts p : ℕ) : Type 0 where
   pub long : length s ≡ 12 + 2 * posts
   pub inside : p < posts
   pub few : posts ≤ 3601
-  pub checksum : numberAt s (sumAt posts) 4 ≡ sumOf (take (sumAt posts) s)
+  pub checksum : Summed s posts

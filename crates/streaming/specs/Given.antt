@@ -1,4 +1,4 @@
--- What both writers judge of what they are given, from whatever source, and of the output: 10, 11, then 12 (rules N10 to N12).
+-- What every writer judges of what it is given, from whatever source, and of the output: 10, 11, then 12 (rules N10 to N12).
 use Prim.Native.Nat.{ℕ}
 use mathlib.Core.Bool.{Bool}
 use mathlib.Core.List.{List, _++_}

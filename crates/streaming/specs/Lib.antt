@@ -1,3 +1,3 @@
--- What both writers judge of heights and room, and what the column writer answers and writes.
+-- What every writer judges of heights and room, and what the column writer answers and writes.
 pub mod Given
 pub mod Column

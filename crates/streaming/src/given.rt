@@ -1,4 +1,4 @@
-// What both writers judge of what they are given, from whatever source, and of the output.
+// What every writer judges of what it is given, from whatever source, and of the output.
 ghost use mathlib.Core.Path.{_≡_};
 ghost use Rattle.sources.specs.Given.{given, countOf};
 ghost use Rattle.streaming.specs.Given.{heightsThen, roomFor, judgedPosts};

@@ -16,7 +16,7 @@ use Rattle.headers.specs.Judged.{frameOf}
 use Rattle.describing.specs.Facts.{factsFor}
 use Rattle.composing.specs.Written.{headersFor}
 use Rattle.describing.specs.declared.Description.{Description}
-use Rattle.sources.specs.Given.{Given, numbers}
+use Rattle.sources.specs.Given.{Given, numbers, heightsOf}
 use Rattle.streaming.specs.Given.{judgedPosts, outputAfter}
 use Rattle.cells.specs.Grid.{afresh}
 
@@ -43,6 +43,10 @@ judgedCell d g room = afterItem (badItem d) (judgedUnder (frameFor d) g room)
 -- the cell of a description and a grid
 unfoldable pub cellOf : Description → List ℤ → List ℕ
 cellOf d zs = afresh (headersFor d) (frameFor d .grid) zs
+
+-- W4, N15: the output at the end of a call whose items are in range
+abbrev pub outputUnder : Description → Given → List ℕ → List ℕ
+outputUnder d g out = outputAfter (judgedUnder (frameFor d) g (length out)) (cellOf d (heightsOf g)) out
 
 -- what is told of the call, and the output at its end
 unfoldable pub cellTold : Description → List ℤ → List ℕ → Told

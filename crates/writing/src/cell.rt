@@ -9,7 +9,7 @@ ghost use Rattle.describing.specs.Items.{inRange};
 ghost use Rattle.sources.specs.Given.{given, heightsOf};
 ghost use Rattle.streaming.specs.Given.{outputAfter};
 ghost use Rattle.writing.specs.Asked.{ColumnsFit, CellFits};
-ghost use Rattle.writing.specs.Cell.{frameFor, judgedUnder, cellOf, cellTold, cellOutput};
+ghost use Rattle.writing.specs.Cell.{frameFor, judgedUnder, cellOf, outputUnder, cellTold, cellOutput};
 use answers::Outcome;
 use answers::Refusal;
 use columns::write::put_column;
@@ -83,7 +83,7 @@ pub fn write_under(
 ) -> Outcome
     requires { ⌜ inRange d ≡ true ⌝ }
     ensures { λ r. ⌜ r ≡ judgedUnder (frameFor d) (given source (now (numbers .entry)) (now (bytes .entry))) (length (now (out .entry))) ⌝ }
-    ensures { λ _. ⌜ now (out .exit) ≡ outputAfter (judgedUnder (frameFor d) (given source (now (numbers .entry)) (now (bytes .entry))) (length (now (out .entry)))) (cellOf d (heightsOf (given source (now (numbers .entry)) (now (bytes .entry))))) (now (out .entry)) ⌝ }
+    ensures { λ _. ⌜ now (out .exit) ≡ outputUnder d (given source (now (numbers .entry)) (now (bytes .entry))) (now (out .entry)) ⌝ }
 {
     let frame = frame_of(facts_for(d));
     let grid = frame.grid;
