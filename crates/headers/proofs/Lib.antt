@@ -6,3 +6,4 @@ pub mod FirstFour
 pub mod TwoParts
 pub mod FreeBytes
 pub mod SameHeaders
+pub mod Voids

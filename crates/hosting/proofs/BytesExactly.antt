@@ -1,13 +1,19 @@
 -- W1, B2, N14: the writer for a C host answers exactly the first row of its order that holds, and as the writer over heights does.
-use Prim.Native.Nat.{ℕ}
+use Prim.Native.Nat.{ℕ, _*_, _<_}
 use mathlib.Core.Path.{_≡_, sym, ap, _∙_}
 use mathlib.Core.List.{List}
 use lib.IntN.{ℤ}
+use lib.ListN.{length}
 use Rattle.answers.specs.declared.Outcome.{Outcome}
-use Rattle.answers.specs.declared.Outcome.the-variants.{Done}
+use Rattle.answers.specs.declared.Outcome.the-variants.{Done, Refused}
+use Rattle.answers.specs.declared.Refusal.the-variants.{GridLength}
 use Rattle.describing.proofs.RangedItems.{item-exactly}
 use Rattle.sources.specs.Given.{numbers, inBytes, heightsInBytes, Counts}
-use Rattle.streaming.proofs.GivenExactly.{as-numbers}
+use Rattle.layout.specs.Levels.{postsOf}
+use Rattle.streaming.specs.Column.{zoneOneColumns, judgedColumn}
+use Rattle.streaming.proofs.GivenExactly.{differs, as-numbers}
+use Rattle.streaming.proofs.NumberExactly as by-number
+use Rattle.streaming.proofs.ColumnExactly as column
 use Rattle.writing.specs.Cell.{postsDue, frameFor, judgedUnder, judgedCell}
 use Rattle.writing.proofs.ItemExactly.{ItemRow, none-bad}
 use Rattle.writing.proofs.ItemExactly as by-item
@@ -39,6 +45,11 @@ module _ (items : List ℤ) (grid : List ℕ) (room : ℕ) where
   unfolding judgedBytes
   numbers-fine e = none-bad (badNumber items) judgedThen e
 
+  -- B2, N10 in plain numbers: any length but two bytes a post is 10, an odd one too
+  pub length-refused : badNumber items ≡ 0 → (length grid ≡ 2 * postsDue (frameFor (descriptionOf items) .grid) → ⊥)
+      → judgedBytes items grid room ≡ Refused (GridLength (postsDue (frameFor (descriptionOf items) .grid)))
+  length-refused e other = numbers-fine e ∙ given-under (frameFor (descriptionOf items)) (inBytes grid) room _ (differs other)
+
   -- where items are in range and the bytes are those of the posts due, the writer over heights answers the same
   pub even-agrees : badNumber items ≡ 0 → Counts (inBytes grid) (postsDue (frameFor (descriptionOf items) .grid))
       → judgedBytes items grid room ≡ judgedCell (descriptionOf items) (numbers (heightsInBytes grid)) room
@@ -60,3 +71,8 @@ unfolding judgedBytes
 ready items grid room done =
     let r = by-item.ready (numberTests items) (judgedThen items grid room) done in
     record { numbers = number-exactly items .0 .1 (r .0); fine = under-fine (frameFor (descriptionOf items)) (inBytes grid) room (r .1) }
+
+-- the same of the column writer, for a level and a number that there are
+pub column-length-refused : (level number : ℕ) (posts : List ℕ) (room : ℕ) → level < 3 → number < zoneOneColumns level → (length posts ≡ 2 * postsOf level → ⊥)
+    → judgedColumn level number (inBytes posts) room ≡ Refused (GridLength (postsOf level))
+column-length-refused level number posts room h u other = column.given level number (inBytes posts) room _ (by-number.then-rest _ h u (differs other))

@@ -3,14 +3,15 @@ use Prim.Native.Nat.{ℕ, _+_, _*_, _/_, _%_, _<_}
 use native.Mathlib.Omega.{arith}
 use mathlib.Core.Path.{_≡_, refl, sym, ap, _∙_}
 use mathlib.Core.Bool.{Bool, true, false}
-use mathlib.Core.List.{List, [], map}
+use mathlib.Core.List.{List, [], _∷_, map}
 use lib.Dec.{eqb}
-use lib.IntN.{ℤ, pos, negℤ}
+use lib.IntN.{ℤ, pos, negsuc, negℤ}
 use lib.ListN.{length, getD, length-map}
 use lib.Seq.{take-length}
 use borrow.Author.Tests.{eqb-true, eqb-false, eq-eqb, ne-eqb}
 use Rattle.octets.specs.Choice.{both}
-use Rattle.octets.specs.Parts.{part}
+use Rattle.octets.specs.Parts.{listed, part}
+use Rattle.octets.specs.Places.{value}
 use Rattle.octets.specs.Ranges.{between}
 use Rattle.octets.proofs.ChoiceLaws.{by-equal}
 use Rattle.octets.proofs.JoinedLaws.{length-listed, getD-listed, listed-is, length-part, getD-part, part-within}
@@ -36,6 +37,15 @@ not-counted (inBytes bs) n h = ne-eqb (length bs) (2 * n) h
 pub never-counted : (g : Given) (n : ℕ) → counts g n ≡ false → Counts g n → ⊥
 never-counted (numbers zs) n e = eqb-false (length zs) n e
 never-counted (inBytes bs) n e = eqb-false (length bs) (2 * n) e
+
+-- B2, N10 in plain numbers: two bytes a height, so that an odd length is no count
+pub bytes-counted : (bs : List ℕ) (n : ℕ) → (counts (inBytes bs) n ≡ true → length bs ≡ 2 * n) × (length bs ≡ 2 * n → counts (inBytes bs) n ≡ true)
+bytes-counted bs n = (counts-only (inBytes bs) n, counts-if (inBytes bs) n)
+
+-- B2 by an example: the high byte first, and the sign bit in it
+pub high-byte-first : heightsInBytes (0x01 ∷ 0x02 ∷ 0xFF ∷ 0xFE ∷ []) ≡ pos 258 ∷ negsuc 1 ∷ []
+unfolding listed twosOf value
+high-byte-first = refl
 
 pub counted : (g : Given) (n : ℕ) → Counts g n → countOf g ≡ n
 counted (numbers zs) n e = e
