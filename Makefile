@@ -219,8 +219,8 @@ bench: $(BENCH)/bench
 figures: $(BENCH)/bench
 	@bench/figures $<
 
-# its names with old_ before them, but for the C library's
-$(BENCH)/old.a: $(OLD)
+# its names with old_ before them, but for the C library's; made anew each time, for OLD may name another and older file than before
+$(BENCH)/old.a: $(OLD) FORCE
 	@mkdir -p $(@D)
 	objcopy --prefix-symbols=old_ $< $@
 	objcopy --redefine-sym old_memset=memset --redefine-sym old_memcpy=memcpy $@
