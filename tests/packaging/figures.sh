@@ -36,3 +36,14 @@ keeps 1111 2.10 2.50 1.90
 keeps 2222 1.90 2.10 2.50
 keeps 3333 10.50 9.50 9.90
 same 'all ratios are told' 1 "$(grep -cF '9.50, 9.90, 10.50' "$tree/docs/FIGURES.md")"
+
+# ---- beside another archive: its names are apart, and it is the one that OLD names, also where an earlier one was newer ----
+
+beside() { # NAME
+    echo "int dted_$1(void) { return 0; }" >"$work/$1.c"
+    cc -c "$work/$1.c" -o "$work/$1.o" && ar rcs "$work/$1.a" "$work/$1.o" && touch -d '2 days ago' "$work/$1.a"
+    good "beside $1.a" in_tree make -s target/bench-beside/old.a OLD="$work/$1.a"
+    same "beside $1.a, its names" "old_dted_$1" "$(nm "$tree/target/bench-beside/old.a" | sed -n 's/.* T //p')"
+}
+beside first
+beside second
