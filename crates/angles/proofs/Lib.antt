@@ -1,3 +1,4 @@
 -- The laws of angles.
 pub mod NearEdges
 pub mod Origins
+pub mod AngleTexts

@@ -2,11 +2,11 @@
 -- `most` degrees before 0: `most` is 90 for a latitude and 180 for a longitude.
 use Prim.Native.Nat.{ℕ, _+_, _-_}
 use mathlib.Core.Bool.{Bool}
-use mathlib.Core.List.{List}
+use mathlib.Core.List.{List, [], _∷_, _++_}
 use lib.ListN.{length, getD}
 use lib.Dec.{eqb, leb, ltb}
 use Rattle.octets.specs.Choice.{pick, both, either}
-use Rattle.octets.specs.Digits.{digitsAt, decimalAt}
+use Rattle.octets.specs.Digits.{digitsAt, decimalAt, digitsOf}
 use Rattle.octets.specs.Texts.{has}
 use Rattle.angles.specs.declared.Axis.{Axis}
 
@@ -65,6 +65,14 @@ isCorner a angle degrees letter =
     both (eqb degrees (degreesOf a angle))
     (either (eqb letter (letterOf a angle))
     (both (eitherLetter a degrees) (either (eqb letter (a .plus)) (eqb letter (a .minus)))))
+
+-- W3: an angle in its form: its degrees, the zeros after them, and its letter
+unfoldable pub angleText : Form → Axis → ℕ → List ℕ
+angleText f a angle = digitsOf (f .digits) (degreesOf a angle) ++ f .zeros ++ (letterOf a angle ∷ [])
+
+-- H42: a letter that may stand at the end of a corner at this angle, whatever its own is
+abbrev pub mayTurn : Axis → ℕ → ℕ → Bool
+mayTurn a angle letter = both (eitherLetter a (degreesOf a angle)) (either (eqb letter (a .plus)) (eqb letter (a .minus)))
 
 -- Z1: the near edge of a cell whose origin lies so many degrees north of 90 S
 unfoldable pub edgeOf : ℕ → ℕ

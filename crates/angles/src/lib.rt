@@ -1,6 +1,8 @@
 // Whole-degree angles, counted from 90 S or from 180 W, and the degrees and letter that write them.
 ghost use mathlib.Core.Path.{_≡_};
-ghost use Rattle.angles.specs.Angles.{degreesOf, letterOf, isOrigin, isSame, isCorner, edgeOf};
+ghost use Prim.Native.Nat.{suc, _+_};
+ghost use lib.ListN.{length};
+ghost use Rattle.angles.specs.Angles.{form, degreesOf, letterOf, isOrigin, mayTurn, angleText, edgeOf};
 use octets::choices::both;
 use octets::choices::either;
 
@@ -56,23 +58,23 @@ pub fn is_origin(axis: Axis, degrees: usize, letter: u8) -> bool
     either(plus, minus)
 }
 
-// Whether they are those of this angle.
-pub fn is_same(axis: Axis, angle: usize, found: usize, side: u8) -> bool
-    ensures { λ r. ⌜ r ≡ isSame axis angle found side ⌝ }
+// Whether a letter may stand at the end of a corner at this angle, whatever its own is: at 0 degrees, and at longitude 180.
+pub fn may_turn(axis: Axis, angle: usize, side: u8) -> bool
+    ensures { λ r. ⌜ r ≡ mayTurn axis angle side ⌝ }
 {
-    both(found == degrees(axis, angle), side == letter(axis, angle))
+    let found = degrees(axis, angle);
+    let free = either(found == 0, both(axis.most == 180, found == 180));
+    both(free, either(side == axis.plus, side == axis.minus))
 }
 
-// As `is_same`, or with either letter at 0 degrees and at longitude 180.
-pub fn is_corner(axis: Axis, angle: usize, found: usize, side: u8) -> bool
-    ensures { λ r. ⌜ r ≡ isCorner axis angle found side ⌝ }
+// Degrees in so many digits, zeros for what is below a degree, and the letter, over the whole field.
+pub fn put_angle(field: &mut [u8], digits: usize, zeros: &[u8], axis: Axis, angle: usize)
+    requires { ⌜ length (now field) ≡ suc (digits + length (now zeros)) ⌝ }
+    ensures { λ _. ⌜ now (field .exit) ≡ angleText (form digits (now (zeros .entry))) axis angle ⌝ }
 {
-    let free = either(found == 0, both(axis.most == 180, found == 180));
-    let any = both(free, either(side == axis.plus, side == axis.minus));
-    both(
-        found == degrees(axis, angle),
-        either(side == letter(axis, angle), any),
-    )
+    octets::digits::put_digits(field, 0, digits, degrees(axis, angle));
+    octets::pastes::paste(field, digits, zeros);
+    field[digits + zeros.len()] = letter(axis, angle);
 }
 
 // The near edge of a cell, from the latitude of its origin.

@@ -16,7 +16,8 @@ use Rattle.fields.specs.Table.{uhl, fields, bytesIn, fieldAt}
 use Rattle.composing.specs.Written.{textFor, withFields}
 use Rattle.describing.specs.declared.Description.{Description}
 use Rattle.fields.specs.declared.Field.{Field}
-use Rattle.fields.specs.declared.Kind.the-variants.{Indicator}
+use Rattle.fields.specs.declared.Kind.the-variants.{Item}
+use Rattle.fields.specs.declared.Item.the-variants.{Partial}
 use Rattle.octets.proofs.PartLaws.{paste-shown, paste-before, paste-behind}
 use Rattle.composing.proofs.TextWidths.{length-text}
 use Rattle.headers.proofs.TableRows.{Row, row}
@@ -35,7 +36,7 @@ all-apart = refl
 
 -- the rows of a list of fields, read as `fieldAt` reads the table's
 abbrev Rows : List Field → Type 0
-Rows fs = (i : ℕ) → i < length fs → Row (getD fs i (uhl 1 1 Indicator))
+Rows fs = (i : ℕ) → i < length fs → Row (getD fs i (uhl 1 1 (Item Partial)))
 
 rows-after : (f : Field) (fs : List Field) → Rows (f ∷ fs) → Rows fs
 rows-after f fs rows i h = rows (suc i) (omega arith)
@@ -78,7 +79,7 @@ module _ (d : Description) where
       all-put-apart (put s g) f gs (omega arith) (rows-after g gs rows) (p .1) ∙ put-apart s f g r h (p .0)
 
   all-put-shown : (s : List ℕ) (fs : List Field) (i : ℕ) → 785 ≤ length s → Rows fs → allApart fs ≡ true → i < length fs
-      → bytesIn (withFields s d fs) (getD fs i (uhl 1 1 Indicator)) ≡ textFor (getD fs i (uhl 1 1 Indicator) .2) d
+      → bytesIn (withFields s d fs) (getD fs i (uhl 1 1 (Item Partial))) ≡ textFor (getD fs i (uhl 1 1 (Item Partial)) .2) d
   unfolding withFields
   all-put-shown s [] i h rows e k = absurd (omega arith)
   all-put-shown s (f ∷ fs) zero h rows e k =

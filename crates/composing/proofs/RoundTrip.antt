@@ -11,24 +11,26 @@ use Rattle.octets.specs.Choice.{pick}
 use Rattle.octets.specs.Digits.{digitsAt, decimalAt, digitsOf}
 use Rattle.octets.specs.Texts.{ascii, differ, has}
 use Rattle.octets.proofs.DigitLaws.{decimal-back, digits-are}
-use Rattle.fields.specs.Table.{bytesIn, fieldAt}
+use Rattle.fields.specs.Table.{bytesIn, fieldAt, itemRow, placeOf}
+use Rattle.fields.specs.declared.Item.the-variants as item
+use Rattle.due.specs.Due.{notAvailable}
 use Rattle.headers.specs.Judged.{Follows}
 use Rattle.describing.specs.Described.{accuracyAt, datumAt, itemsIn}
 use Rattle.describing.specs.Items.{accuracyRanged, inRange}
 use Rattle.rules.specs.Rules.{holds}
-use Rattle.describing.specs.Facts.{dueFor}
-use Rattle.composing.specs.Written.{accuracyText, datumText, textFor, headersFor}
+use Rattle.describing.specs.Facts.{basisOf}
+use Rattle.composing.specs.Written.{accuracyText, datumText, itemText, headersFor}
 use Rattle.describing.specs.declared.Accuracy.{Accuracy}
 use Rattle.describing.specs.declared.Accuracy.the-variants.{Metres, Unknown}
 use Rattle.describing.specs.declared.Datum.{Datum}
 use Rattle.describing.specs.declared.Datum.the-variants.{Msl, E96}
 use Rattle.fields.specs.declared.Whose.the-variants as whose
 use Rattle.describing.specs.declared.Description.{Description}
-use Rattle.rules.specs.declared.Due.{Due}
+use Rattle.due.specs.declared.Basis.{Basis}
 use Rattle.octets.proofs.PartLaws.{byte-part, decimal-part, digits-part, text-part}
 use Rattle.composing.proofs.WrittenLength.{length-headers, field-written}
 use Rattle.describing.proofs.RangedItems.{RangedItems, ranged-items}
-use Rattle.composing.proofs.DueBack.{level-back, latitude-back, longitude-back, security-back, due-back}
+use Rattle.composing.proofs.BasisBack.{level-back, latitude-back, longitude-back, security-back, basis-back}
 use Rattle.composing.proofs.WrittenHolds.{text-holds}
 
 -- the headers of a description in range follow every rule
@@ -37,8 +39,8 @@ written-follows d e =
     let l = length-headers d in (
       omega arith,
       λ i h.
-          ap (λ (due : Due). holds (fieldAt i .2) due (bytesIn (headersFor d) (fieldAt i))) (due-back d e)
-          ∙ ap (holds (fieldAt i .2) (dueFor d)) (field-written d i h)
+          ap (λ (b : Basis). holds (fieldAt i .2) b (bytesIn (headersFor d) (fieldAt i))) (basis-back d e)
+          ∙ ap (holds (fieldAt i .2) (basisOf d)) (field-written d i h)
           ∙ text-holds d e (fieldAt i .2),
     )
 
@@ -46,7 +48,7 @@ written-follows d e =
 number-read : (s : List ℕ) (at n v : ℕ) → v < 10 ^ n → take n (drop at s) ≡ digitsOf n v → decimalAt s at n ≡ v
 number-read s at n v h e = decimal-part s at n ∙ ap (λ (t : List ℕ). decimalAt t 0 n) e ∙ decimal-back n v h
 
-no-digits : digitsAt (ascii "NA  ") 0 4 ≡ false
+no-digits : digitsAt notAvailable 0 4 ≡ false
 unfolding digitsAt
 no-digits = refl
 
@@ -76,37 +78,37 @@ datum-read s at E96 e = ap (λ (b : Bool). pick b Msl E96) (text-part s at (asci
 
 -- the five accuracies are read back
 record AccuraciesBack (d : Description) : Type 0 where
-  uhl : accuracyAt (headersFor d) 28 ≡ d .uhl
-  absolute-horizontal : accuracyAt (headersFor d) 731 ≡ d .absolute .horizontal
-  absolute-vertical : accuracyAt (headersFor d) 735 ≡ d .absolute .vertical
-  relative-horizontal : accuracyAt (headersFor d) 739 ≡ d .relative .horizontal
-  relative-vertical : accuracyAt (headersFor d) 743 ≡ d .relative .vertical
+  uhl : accuracyAt (headersFor d) (placeOf (item.Accuracy whose.Uhl)) ≡ d .uhl
+  absolute-horizontal : accuracyAt (headersFor d) (placeOf (item.Accuracy whose.AbsoluteHorizontal)) ≡ d .absolute .horizontal
+  absolute-vertical : accuracyAt (headersFor d) (placeOf (item.Accuracy whose.AbsoluteVertical)) ≡ d .absolute .vertical
+  relative-horizontal : accuracyAt (headersFor d) (placeOf (item.Accuracy whose.RelativeHorizontal)) ≡ d .relative .horizontal
+  relative-vertical : accuracyAt (headersFor d) (placeOf (item.Accuracy whose.RelativeVertical)) ≡ d .relative .vertical
 
 module _ (d : Description) where
-  edition-back : d .edition ≤ 99 → decimalAt (headersFor d) 167 2 ≡ d .edition
-  unfolding textFor
-  edition-back h = number-read (headersFor d) 167 2 (d .edition) (omega arith) (field-written d 13 (lit< tt))
+  edition-back : d .edition ≤ 99 → decimalAt (headersFor d) (placeOf item.Edition) 2 ≡ d .edition
+  unfolding itemText
+  edition-back h = number-read (headersFor d) (placeOf item.Edition) 2 (d .edition) (omega arith) (field-written d (itemRow item.Edition) (lit< tt))
 
-  version-back : getD (headersFor d) 169 0 ≡ d .version
-  unfolding textFor
-  version-back = sym (byte-part (headersFor d) 169 1 0 (lit< tt)) ∙ ap (λ (t : List ℕ). getD t 0 0) (field-written d 14 (lit< tt))
+  version-back : getD (headersFor d) (placeOf item.Version) 0 ≡ d .version
+  unfolding itemText
+  version-back = sym (byte-part (headersFor d) (placeOf item.Version) 1 0 (lit< tt)) ∙ ap (λ (t : List ℕ). getD t 0 0) (field-written d (itemRow item.Version) (lit< tt))
 
-  datum-back : datumAt (headersFor d) 221 ≡ d .datum
-  unfolding textFor
-  datum-back = datum-read (headersFor d) 221 (d .datum) (field-written d 16 (lit< tt))
+  datum-back : datumAt (headersFor d) (placeOf item.Datum) ≡ d .datum
+  unfolding itemText
+  datum-back = datum-read (headersFor d) (placeOf item.Datum) (d .datum) (field-written d (itemRow item.Datum) (lit< tt))
 
-  partial-back : d .partial ≤ 99 → decimalAt (headersFor d) 369 2 ≡ d .partial
-  unfolding textFor
-  partial-back h = number-read (headersFor d) 369 2 (d .partial) (omega arith) (field-written d 33 (lit< tt))
+  partial-back : d .partial ≤ 99 → decimalAt (headersFor d) (placeOf item.Partial) 2 ≡ d .partial
+  unfolding itemText
+  partial-back h = number-read (headersFor d) (placeOf item.Partial) 2 (d .partial) (omega arith) (field-written d (itemRow item.Partial) (lit< tt))
 
   accuracies-back : RangedItems d → AccuraciesBack d
-  unfolding textFor
+  unfolding itemText
   accuracies-back r = record {
-    uhl = accuracy-read (headersFor d) 28 (d .uhl) (r .accuracy whose.Uhl) (field-written d 5 (lit< tt));
-    absolute-horizontal = accuracy-read (headersFor d) 731 (d .absolute .horizontal) (r .accuracy whose.AbsoluteHorizontal) (field-written d 35 (lit< tt));
-    absolute-vertical = accuracy-read (headersFor d) 735 (d .absolute .vertical) (r .accuracy whose.AbsoluteVertical) (field-written d 36 (lit< tt));
-    relative-horizontal = accuracy-read (headersFor d) 739 (d .relative .horizontal) (r .accuracy whose.RelativeHorizontal) (field-written d 37 (lit< tt));
-    relative-vertical = accuracy-read (headersFor d) 743 (d .relative .vertical) (r .accuracy whose.RelativeVertical) (field-written d 38 (lit< tt));
+    uhl = accuracy-read (headersFor d) (placeOf (item.Accuracy whose.Uhl)) (d .uhl) (r .accuracy whose.Uhl) (field-written d (itemRow (item.Accuracy whose.Uhl)) (lit< tt));
+    absolute-horizontal = accuracy-read (headersFor d) (placeOf (item.Accuracy whose.AbsoluteHorizontal)) (d .absolute .horizontal) (r .accuracy whose.AbsoluteHorizontal) (field-written d (itemRow (item.Accuracy whose.AbsoluteHorizontal)) (lit< tt));
+    absolute-vertical = accuracy-read (headersFor d) (placeOf (item.Accuracy whose.AbsoluteVertical)) (d .absolute .vertical) (r .accuracy whose.AbsoluteVertical) (field-written d (itemRow (item.Accuracy whose.AbsoluteVertical)) (lit< tt));
+    relative-horizontal = accuracy-read (headersFor d) (placeOf (item.Accuracy whose.RelativeHorizontal)) (d .relative .horizontal) (r .accuracy whose.RelativeHorizontal) (field-written d (itemRow (item.Accuracy whose.RelativeHorizontal)) (lit< tt));
+    relative-vertical = accuracy-read (headersFor d) (placeOf (item.Accuracy whose.RelativeVertical)) (d .relative .vertical) (r .accuracy whose.RelativeVertical) (field-written d (itemRow (item.Accuracy whose.RelativeVertical)) (lit< tt));
   }
 
 -- reading them gives the description back

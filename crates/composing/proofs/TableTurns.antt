@@ -12,13 +12,28 @@ use borrow.Rule.Slice.PartMut.{putMid}
 use Rattle.octets.specs.Pastes.{pasted}
 use Rattle.octets.proofs.PasteLaws.{length-paste, part-back}
 use Rattle.octets.proofs.TestLaws.{below}
+use Rattle.layout.specs.declared.Grid.{Grid}
+use Rattle.due.specs.Asked.{OriginInRange}
+use Rattle.due.specs.declared.Basis.{Basis}
+use Rattle.describing.specs.Facts.{basisOf}
 use Rattle.fields.specs.Table.{fields, fieldAt}
-use Rattle.composing.specs.Written.{textFor, withFields, areas, withAreas}
+use Rattle.composing.specs.Written.{textFor, withFields, withAreas}
 use Rattle.describing.specs.declared.Description.{Description}
-use Rattle.composing.specs.declared.Area.{Area}
+use Rattle.fields.specs.Free.{areas}
+use Rattle.fields.specs.declared.Area.{Area}
 use Rattle.fields.specs.declared.Field.{Field}
 use Rattle.composing.proofs.TextWidths.{length-text}
 use Rattle.headers.proofs.TableRows.{Row, row}
+
+-- the basis that the writer makes of a description and its grid
+pub basis-is : (d : Description) (g : Grid) → g ≡ basisOf d .grid
+    → _≡_ {A = Basis} (record { grid = g; latitude = d .latitude; longitude = d .longitude; letter = d .security }) (basisOf d)
+unfolding basisOf
+basis-is d g e = λ k. record { grid = e k; latitude = d .latitude; longitude = d .longitude; letter = d .security }
+
+pub origin-of : (d : Description) → OriginInRange (d .latitude) (d .longitude) → OriginInRange (basisOf d .latitude) (basisOf d .longitude)
+unfolding basisOf
+origin-of d r = r
 
 abbrev pub areaAt : ℕ → Area
 areaAt i = getD areas i (record { 0 = 0; 1 = 0 })

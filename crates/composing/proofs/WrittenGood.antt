@@ -6,19 +6,19 @@ use mathlib.Core.Bool.{true}
 use mathlib.Core.List.{List, _++_}
 use lib.ListN.{length, take, length-append}
 use lib.Seq.{take-at, take-all}
-use Rattle.headers.specs.Due.{dueIn}
+use Rattle.headers.specs.Basis.{basisIn}
 use Rattle.describing.specs.Items.{inRange}
 use Rattle.headers.specs.Judged.{judged, factsIn}
 use Rattle.describing.specs.Described.{itemsIn, describedBy, described}
-use Rattle.describing.specs.Facts.{dueFor}
+use Rattle.describing.specs.Facts.{basisOf}
 use Rattle.composing.specs.Written.{headersFor}
 use Rattle.describing.specs.declared.Description.{Description}
 use Rattle.headers.specs.declared.Judged.the-variants.{Good}
 use Rattle.describing.specs.declared.Described.the-variants.{As}
-use Rattle.composing.proofs.DueBack.{due-back}
+use Rattle.composing.proofs.BasisBack.{basis-back}
 use Rattle.headers.proofs.Exactly.{follows-good}
 use Rattle.composing.proofs.RoundTrip.{written-follows, written-read}
-use Rattle.headers.proofs.SameHeaders.{same-headers, same-due}
+use Rattle.headers.proofs.SameHeaders.{same-headers, same-basis}
 use Rattle.describing.proofs.SameItems.{same-items}
 use Rattle.composing.proofs.WrittenLength.{length-headers}
 
@@ -37,8 +37,8 @@ module _ (d : Description) (rest : List ℕ) (e : inRange d ≡ true) where
   pub written-good : judged (headersFor d ++ rest) ≡ Good (factsIn (headersFor d))
   written-good = same-headers (headersFor d ++ rest) (headersFor d) long alone front ∙ follows-good (headersFor d) (written-follows d e)
 
-  pub written-due : dueIn (headersFor d ++ rest) ≡ dueFor d
-  written-due = same-due (headersFor d ++ rest) (headersFor d) long alone front ∙ due-back d e
+  pub written-basis : basisIn (headersFor d ++ rest) ≡ basisOf d
+  written-basis = same-basis (headersFor d ++ rest) (headersFor d) long alone front ∙ basis-back d e
 
   pub written-items : itemsIn (headersFor d ++ rest) ≡ d
   written-items = same-items (headersFor d ++ rest) (headersFor d) long alone front ∙ written-read d e

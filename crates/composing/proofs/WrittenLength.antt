@@ -15,9 +15,10 @@ use Rattle.octets.proofs.ChoiceLaws.{both-true}
 use Rattle.octets.proofs.PasteLaws.{length-paste, paste-front, part-back}
 use Rattle.layout.specs.Grid.{headerBytes}
 use Rattle.fields.specs.Table.{bytesIn, fieldAt}
-use Rattle.composing.specs.Written.{areas, withAreas, textFor, freeBytes, headersFor}
+use Rattle.composing.specs.Written.{withAreas, textFor, freeBytes, headersFor}
 use Rattle.describing.specs.declared.Description.{Description}
-use Rattle.composing.specs.declared.Area.{Area}
+use Rattle.fields.specs.Free.{areas, dateAt}
+use Rattle.fields.specs.declared.Area.{Area}
 use Rattle.composing.proofs.FieldsApart.{length-fields, field-shown}
 
 -- every area lies in the first 785 bytes
@@ -35,10 +36,10 @@ length-areas s (a ∷ rest) h e =
     length-areas (pasted s (a .0) (replicate (a .1) 0x30)) rest (omega arith) (p .1) ∙ l
 
 -- blanks, areas of zeros and the four digits, over any bytes of which there are enough
-length-free : (s : List ℕ) → 785 ≤ length s → length (pasted (withAreas s areas) (80 + 138 - 1) (ascii "0005")) ≡ length s
+length-free : (s : List ℕ) → 785 ≤ length s → length (pasted (withAreas s areas) dateAt (ascii "0005")) ≡ length s
 length-free s h =
     let l = length-areas s areas h refl in
-    length-paste (withAreas s areas) 217 (ascii "0005") (omega arith) ∙ l
+    length-paste (withAreas s areas) dateAt (ascii "0005") (omega arith) ∙ l
 
 length-free-bytes : length freeBytes ≡ headerBytes
 unfolding freeBytes

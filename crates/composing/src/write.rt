@@ -2,12 +2,16 @@
 ghost use mathlib.Core.Path.{_≡_};
 ghost use mathlib.Core.List.{_++_};
 ghost use lib.ListN.{length, drop};
+ghost use Rattle.layout.specs.Grid.{headerBytes};
 ghost use Rattle.fields.specs.Table.{fields};
-ghost use Rattle.composing.specs.Written.{withFields, areas, withAreas, freeBytes, headersFor};
+ghost use Rattle.fields.specs.Free.{areas};
+ghost use Rattle.composing.specs.Written.{withFields, withAreas, freeBytes, headersFor};
 ghost use Rattle.composing.specs.Asked.{ToFill, HeadersFit};
-use crate::AREAS;
 use crate::put::put_field;
 use describing::Description;
+use due::Basis;
+use fields::AREAS;
+use fields::DATE;
 use fields::FIELDS;
 use fields::row;
 use layout::Grid;
@@ -18,7 +22,7 @@ use octets::pastes::fill;
 const SPECIFIED: [u8; 4] = *b"0005";
 
 fn put_areas(head: &mut [u8])
-    requires { ⌜ length (now head) ≡ 3428 ⌝ }
+    requires { ⌜ length (now head) ≡ headerBytes ⌝ }
     ensures { λ _. ⌜ now (head .exit) ≡ withAreas (now (head .entry)) areas ⌝ }
 {
     let mut i = 0;
@@ -31,16 +35,16 @@ fn put_areas(head: &mut [u8])
 
 // The bytes that no field holds, and anything where fields will stand.
 fn put_free(head: &mut [u8])
-    requires { ⌜ length (now head) ≡ 3428 ⌝ }
+    requires { ⌜ length (now head) ≡ headerBytes ⌝ }
     ensures { λ _. ⌜ now (head .exit) ≡ freeBytes ⌝ }
 {
     fill(head, 0, HEADER_BYTES, b' ');
     put_areas(head);
-    octets::pastes::paste(head, 217, &SPECIFIED);
+    octets::pastes::paste(head, DATE, &SPECIFIED);
 }
 
-fn put_fields(head: &mut [u8], d: Description, grid: Grid)
-    requires { ⌜ ToFill 3428 (now head) d grid ⌝ }
+fn put_fields(head: &mut [u8], d: Description, basis: Basis)
+    requires { ⌜ ToFill headerBytes (now head) d basis ⌝ }
     ensures { λ _. ⌜ now (head .exit) ≡ withFields (now (head .entry)) d fields ⌝ }
 {
     let mut i = 0;
@@ -48,23 +52,29 @@ fn put_fields(head: &mut [u8], d: Description, grid: Grid)
         let field = row(i);
         let at = field.0;
         let kind = field.2;
-        put_field(&mut head[at..at + field.1], kind, d, grid);
+        put_field(&mut head[at..at + field.1], kind, d, basis);
         i += 1;
     }
 }
 
-fn put_all(head: &mut [u8], d: Description, grid: Grid)
-    requires { ⌜ ToFill 3428 (now head) d grid ⌝ }
+fn put_all(head: &mut [u8], d: Description, basis: Basis)
+    requires { ⌜ ToFill headerBytes (now head) d basis ⌝ }
     ensures { λ _. ⌜ now (head .exit) ≡ headersFor d ⌝ }
 {
     put_free(head);
-    put_fields(head, d, grid);
+    put_fields(head, d, basis);
 }
 
 // The headers at the front of `out`, for the grid that the description makes due; every byte past them stays.
 pub fn put_headers(out: &mut [u8], d: Description, grid: Grid)
     requires { ⌜ HeadersFit (now out) d grid ⌝ }
-    ensures { λ _. ⌜ now (out .exit) ≡ headersFor d ++ drop 3428 (now (out .entry)) ⌝ }
+    ensures { λ _. ⌜ now (out .exit) ≡ headersFor d ++ drop headerBytes (now (out .entry)) ⌝ }
 {
-    put_all(&mut out[0..HEADER_BYTES], d, grid);
+    let basis = Basis {
+        grid,
+        latitude: d.latitude,
+        longitude: d.longitude,
+        letter: d.security,
+    };
+    put_all(&mut out[0..HEADER_BYTES], d, basis);
 }

@@ -12,7 +12,7 @@ use Rattle.answers.specs.declared.Outcome.{Outcome}
 use Rattle.answers.specs.declared.Outcome.the-variants.{Done}
 use Rattle.packing.specs.Packed.{packed}
 use Rattle.describing.specs.Described.{described}
-use Rattle.describing.specs.ItemTable.{Item}
+use Rattle.fields.specs.declared.Item.{Item}
 use Rattle.describing.specs.declared.Described.{Described}
 use Rattle.reading.specs.Intake.{taken}
 use Rattle.reaching.specs.Lookup.{saidOf, lookedUp}

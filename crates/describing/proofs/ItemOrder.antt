@@ -7,25 +7,27 @@ use lib.ListN.{getD}
 use Rattle.octets.specs.Tests.{every}
 use Rattle.octets.proofs.TestLaws.{each-true}
 use Rattle.fields.specs.declared.Whose.the-variants.{Uhl, AbsoluteHorizontal, AbsoluteVertical, RelativeHorizontal, RelativeVertical}
-use Rattle.describing.specs.ItemTable.{Item, level, originLatitude, originLongitude, securityLetter, edition, matchVersion, verticalDatum, accuracy, partialIndicator, itemNumber, inOrder}
+use Rattle.fields.specs.declared.Item.{Item}
+use Rattle.fields.specs.declared.Item.the-variants.{Level, Latitude, Longitude, Security, Edition, Version, Datum, Accuracy, Partial}
+use Rattle.describing.specs.ItemTable.{itemNumber, inOrder}
 
 pub numbers-run : map itemNumber inOrder ≡ 1 ∷ 2 ∷ 3 ∷ 4 ∷ 5 ∷ 6 ∷ 7 ∷ 8 ∷ 9 ∷ 10 ∷ 11 ∷ 12 ∷ 13 ∷ []
 numbers-run = refl
 
 pub at-number : {A : Type 0} (f : Item → A) (x : A) (i : Item) → getD (map f inOrder) (itemNumber i - 1) x ≡ f i
-at-number f x level = refl
-at-number f x originLatitude = refl
-at-number f x originLongitude = refl
-at-number f x securityLetter = refl
-at-number f x edition = refl
-at-number f x matchVersion = refl
-at-number f x verticalDatum = refl
-at-number f x (accuracy Uhl) = refl
-at-number f x (accuracy AbsoluteHorizontal) = refl
-at-number f x (accuracy AbsoluteVertical) = refl
-at-number f x (accuracy RelativeHorizontal) = refl
-at-number f x (accuracy RelativeVertical) = refl
-at-number f x partialIndicator = refl
+at-number f x Level = refl
+at-number f x Latitude = refl
+at-number f x Longitude = refl
+at-number f x Security = refl
+at-number f x Edition = refl
+at-number f x Version = refl
+at-number f x Datum = refl
+at-number f x (Accuracy Uhl) = refl
+at-number f x (Accuracy AbsoluteHorizontal) = refl
+at-number f x (Accuracy AbsoluteVertical) = refl
+at-number f x (Accuracy RelativeHorizontal) = refl
+at-number f x (Accuracy RelativeVertical) = refl
+at-number f x Partial = refl
 
 -- a test holds all along the items where it holds of each
 pub all-items : (test : Item → Bool) → ((i : Item) → test i ≡ true) → every (map test inOrder) ≡ true

@@ -8,7 +8,9 @@ use lib.Dec.{leb, ltb, eqb}
 use lib.ListN.{getD}
 use borrow.Author.Tests.{leb-true, ltb-true, eqb-true}
 use Rattle.octets.proofs.TestLaws.{below, passes}
-use Rattle.describing.specs.ItemTable.{Item, level, itemNumber, inOrder}
+use Rattle.fields.specs.declared.Item.{Item}
+use Rattle.fields.specs.declared.Item.the-variants.{Level}
+use Rattle.describing.specs.ItemTable.{itemNumber, inOrder}
 use Rattle.describing.specs.Items.{itemTest, itemTests, firstFailed, badItem}
 use Rattle.describing.specs.declared.Description.{Description}
 use Rattle.describing.proofs.ItemOrder.{at-number, each-item}
@@ -22,7 +24,7 @@ to-13 i = leb-true (itemNumber i) 13 (each-item (λ j. leb (itemNumber j) 13) re
 
 -- the item at an index of their order
 abbrev itemAt : ℕ → Item
-itemAt n = getD inOrder n level
+itemAt n = getD inOrder n Level
 
 number-at : (n : ℕ) → n < 13 → itemNumber (itemAt n) ≡ suc n
 number-at n h =

@@ -16,7 +16,8 @@ use Rattle.rules.specs.Rules.{isLetter, isVersion}
 use Rattle.describing.specs.Items.{accuracyRanged, accuracyFor, itemTest, itemTests, firstFailed, badItem, inRange}
 use Rattle.describing.specs.declared.Description.{Description}
 use Rattle.fields.specs.declared.Whose.{Whose}
-use Rattle.describing.specs.ItemTable.{Item, level, originLatitude, originLongitude, securityLetter, edition, matchVersion, accuracy, partialIndicator}
+use Rattle.fields.specs.declared.Item.{Item}
+use Rattle.fields.specs.declared.Item.the-variants.{Level, Latitude, Longitude, Security, Edition, Version, Accuracy, Partial}
 use Rattle.describing.proofs.ItemOrder.{each-item}
 
 pub record RangedItems (d : Description) : Type 0 where
@@ -34,17 +35,17 @@ pub ranged-items : (d : Description) → inRange d ≡ true → RangedItems d
 unfolding itemTests
 ranged-items d e =
     let held : (i : Item) → itemTest d i ≡ true = each-item (itemTest d) e in
-    let edition = both-true (leb 1 (d .edition)) (leb (d .edition) 99) (held edition) in
+    let edition = both-true (leb 1 (d .edition)) (leb (d .edition) 99) (held Edition) in
     record {
-      level = ltb-true (d .level) 3 (held level);
-      latitude = ltb-true (d .latitude) 180 (held originLatitude);
-      longitude = ltb-true (d .longitude) 360 (held originLongitude);
-      security = held securityLetter;
+      level = ltb-true (d .level) 3 (held Level);
+      latitude = ltb-true (d .latitude) 180 (held Latitude);
+      longitude = ltb-true (d .longitude) 360 (held Longitude);
+      security = held Security;
       edition-low = leb-true 1 (d .edition) (edition .0);
       edition-high = leb-true (d .edition) 99 (edition .1);
-      version = held matchVersion;
-      accuracy = λ w. held (accuracy w);
-      partial = leb-true (d .partial) 99 (held partialIndicator);
+      version = held Version;
+      accuracy = λ w. held (Accuracy w);
+      partial = leb-true (d .partial) 99 (held Partial);
     }
 
 -- a search for a failed test: at the next test, and at the end

@@ -16,9 +16,11 @@ use Rattle.octets.proofs.PartLaws.{byte-part, decimal-part}
 use Rattle.headers.specs.Judged.{judged, factsIn, Follows}
 use Rattle.headers.specs.declared.Judged.{Judged}
 use Rattle.headers.specs.declared.Judged.the-variants.{Good, Refused}
-use Rattle.angles.specs.Angles.{northward, eastward}
-use Rattle.headers.specs.Due.{levelAt, originAt, dueIn}
-use Rattle.rules.specs.Rules.{isLetter, isVersion, holds}
+use Rattle.headers.specs.Basis.{levelAt, latitudeIn, longitudeIn, securityIn, basisIn}
+use Rattle.fields.specs.Table.{itemRow, placeOf}
+use Rattle.fields.specs.declared.Item.the-variants.{Security, Edition, Version, Accuracy, Partial}
+use Rattle.fields.specs.declared.Whose.the-variants.{Uhl, AbsoluteHorizontal, AbsoluteVertical, RelativeHorizontal, RelativeVertical}
+use Rattle.rules.specs.Rules.{isLetter, isVersion, itemHolds}
 use Rattle.headers.proofs.Exactly.{good-follows, follows-good}
 use Rattle.headers.proofs.FirstFour.{good-facts, level-below}
 use Rattle.describing.specs.Items.{accuracyRanged, itemTests, inRange}
@@ -35,31 +37,47 @@ accuracy-ranged s at =
     (λ e. rw e)
 
 module _ (s : List ℕ) (follows : Follows s) where
-  security-ranged : isLetter (getD s 32 0) ≡ true
-  unfolding holds
+  security-ranged : isLetter (securityIn s) ≡ true
+  unfolding itemHolds
   security-ranged =
-      let t = take 3 (drop 32 s) in
-      rw (sym (byte-part s 32 3 0 (lit< tt))) (both-true (isLetter (getD t 0 0)) (has t 1 (ascii "  ")) (follows .1 6 (lit< tt)) .0)
+      let t = take 3 (drop (placeOf Security) s) in
+      rw (sym (byte-part s (placeOf Security) 3 0 (lit< tt)))
+      (both-true (isLetter (getD t 0 0)) (has t 1 (ascii "  ")) (follows .1 (itemRow Security) (lit< tt)) .0)
 
-  edition-ranged : both (leb 1 (decimalAt s 167 2)) (leb (decimalAt s 167 2) 99) ≡ true
-  unfolding holds
+  edition-ranged : both (leb 1 (decimalAt s (placeOf Edition) 2)) (leb (decimalAt s (placeOf Edition) 2) 99) ≡ true
+  unfolding itemHolds
   edition-ranged =
-      let t = take 2 (drop 167 s) in
-      let low = both-true (digitsAt t 0 2) (leb 1 (decimalAt t 0 2)) (follows .1 13 (lit< tt)) .1 in
-      rw (decimal-part s 167 2, low) (le-leb (decimalAt t 0 2) 99 (omega (arith, decimal-below t 0 2)))
+      let t = take 2 (drop (placeOf Edition) s) in
+      let low = both-true (digitsAt t 0 2) (leb 1 (decimalAt t 0 2)) (follows .1 (itemRow Edition) (lit< tt)) .1 in
+      rw (decimal-part s (placeOf Edition) 2, low) (le-leb (decimalAt t 0 2) 99 (omega (arith, decimal-below t 0 2)))
 
-  version-ranged : isVersion (getD s 169 0) ≡ true
-  unfolding holds
-  version-ranged = rw (sym (byte-part s 169 1 0 (lit< tt))) (follows .1 14 (lit< tt))
+  version-ranged : isVersion (getD s (placeOf Version) 0) ≡ true
+  unfolding itemHolds
+  version-ranged = rw (sym (byte-part s (placeOf Version) 1 0 (lit< tt))) (follows .1 (itemRow Version) (lit< tt))
 
   pub read-ranged : inRange (itemsIn s) ≡ true
-  unfolding itemTests itemsIn factsIn dueIn
+  unfolding itemTests itemsIn factsIn basisIn
   read-ranged =
       let f = good-facts s (factsIn s) (follows-good s follows) in
-      let latitude : ltb (originAt northward s 12) 180 ≡ true = lt-ltb _ 180 (f .latitude) in
-      let longitude : ltb (originAt eastward s 4) 360 ≡ true = lt-ltb _ 360 (f .longitude) in
-      let partial : leb (decimalAt s 369 2) 99 ≡ true = le-leb (decimalAt s 369 2) 99 (omega (arith, decimal-below s 369 2)) in
-      rw (lt-ltb (levelAt s) 3 (level-below s), latitude, longitude, security-ranged, edition-ranged, version-ranged, accuracy-ranged s 28, accuracy-ranged s 731, accuracy-ranged s 735, accuracy-ranged s 739, accuracy-ranged s 743, partial)
+      let latitude : ltb (latitudeIn s) 180 ≡ true = lt-ltb _ 180 (f .latitude) in
+      let longitude : ltb (longitudeIn s) 360 ≡ true = lt-ltb _ 360 (f .longitude) in
+      let partial : leb (decimalAt s (placeOf Partial) 2) 99 ≡ true =
+      le-leb (decimalAt s (placeOf Partial) 2) 99 (omega (arith, decimal-below s (placeOf Partial) 2))
+      in
+      rw (
+        lt-ltb (levelAt s) 3 (level-below s),
+        latitude,
+        longitude,
+        security-ranged,
+        edition-ranged,
+        version-ranged,
+        accuracy-ranged s (placeOf (Accuracy Uhl)),
+        accuracy-ranged s (placeOf (Accuracy AbsoluteHorizontal)),
+        accuracy-ranged s (placeOf (Accuracy AbsoluteVertical)),
+        accuracy-ranged s (placeOf (Accuracy RelativeHorizontal)),
+        accuracy-ranged s (placeOf (Accuracy RelativeVertical)),
+        partial,
+      )
 
 described-by : (s : List ℕ) (x : Judged) → judged s ≡ x → (d : Description) → describedBy s x ≡ As d → inRange d ≡ true
 described-by s (Good f) e d q =

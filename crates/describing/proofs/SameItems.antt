@@ -6,11 +6,14 @@ use lib.Dec.{lit<}
 use lib.ListN.{length, take, drop}
 use Rattle.octets.specs.Texts.{ascii}
 use Rattle.octets.proofs.PartLaws.{byte-alike, decimal-alike, digits-alike, text-alike}
-use Rattle.headers.specs.Due.{dueIn}
+use Rattle.fields.specs.Table.{itemRow, placeOf}
+use Rattle.fields.specs.declared.Item.the-variants.{Edition, Version, Datum, Accuracy, Partial}
+use Rattle.fields.specs.declared.Whose.the-variants.{Uhl, AbsoluteHorizontal, AbsoluteVertical, RelativeHorizontal, RelativeVertical}
+use Rattle.headers.specs.Basis.{basisIn}
 use Rattle.headers.specs.Judged.{judged}
 use Rattle.headers.specs.declared.Judged.{Judged}
 use Rattle.headers.specs.declared.Judged.the-variants as judgement
-use Rattle.headers.proofs.FreeBytes.{SameFields, level-alike, due-alike, free-bytes}
+use Rattle.headers.proofs.FreeBytes.{SameFields, level-alike, basis-alike, free-bytes}
 use Rattle.headers.proofs.SameHeaders.{same-fields}
 use Rattle.describing.specs.Described.{accuracyAt, datumAt, itemsIn, describedBy, described}
 use Rattle.describing.specs.declared.Described.the-variants.{As}
@@ -25,21 +28,27 @@ module _ (s t : List ℕ) where
   datum-alike at e = rw (text-alike s t at (ascii "MSL") e)
 
   items-alike : SameFields s t → itemsIn s ≡ itemsIn t
-  unfolding itemsIn dueIn
+  unfolding itemsIn basisIn
   items-alike same =
-      let due = due-alike s t same in
+      let basis = basis-alike s t same in
       λ k. record {
         level = level-alike s t same k;
-        latitude = due k .latitude;
-        longitude = due k .longitude;
-        security = due k .letter;
-        edition = decimal-alike s t 167 2 (same 13 (lit< tt)) k;
-        version = byte-alike s t 169 1 (same 14 (lit< tt)) 0 (lit< tt) k;
-        datum = datum-alike 221 (same 16 (lit< tt)) k;
-        uhl = accuracy-alike 28 (same 5 (lit< tt)) k;
-        absolute = record { horizontal = accuracy-alike 731 (same 35 (lit< tt)) k; vertical = accuracy-alike 735 (same 36 (lit< tt)) k };
-        relative = record { horizontal = accuracy-alike 739 (same 37 (lit< tt)) k; vertical = accuracy-alike 743 (same 38 (lit< tt)) k };
-        partial = decimal-alike s t 369 2 (same 33 (lit< tt)) k;
+        latitude = basis k .latitude;
+        longitude = basis k .longitude;
+        security = basis k .letter;
+        edition = decimal-alike s t (placeOf Edition) 2 (same (itemRow Edition) (lit< tt)) k;
+        version = byte-alike s t (placeOf Version) 1 (same (itemRow Version) (lit< tt)) 0 (lit< tt) k;
+        datum = datum-alike (placeOf Datum) (same (itemRow Datum) (lit< tt)) k;
+        uhl = accuracy-alike (placeOf (Accuracy Uhl)) (same (itemRow (Accuracy Uhl)) (lit< tt)) k;
+        absolute = record {
+          horizontal = accuracy-alike (placeOf (Accuracy AbsoluteHorizontal)) (same (itemRow (Accuracy AbsoluteHorizontal)) (lit< tt)) k;
+          vertical = accuracy-alike (placeOf (Accuracy AbsoluteVertical)) (same (itemRow (Accuracy AbsoluteVertical)) (lit< tt)) k;
+        };
+        relative = record {
+          horizontal = accuracy-alike (placeOf (Accuracy RelativeHorizontal)) (same (itemRow (Accuracy RelativeHorizontal)) (lit< tt)) k;
+          vertical = accuracy-alike (placeOf (Accuracy RelativeVertical)) (same (itemRow (Accuracy RelativeVertical)) (lit< tt)) k;
+        };
+        partial = decimal-alike s t (placeOf Partial) 2 (same (itemRow Partial) (lit< tt)) k;
       }
 
   pub same-items : 3428 ≤ length s → 3428 ≤ length t → take 3428 s ≡ take 3428 t → itemsIn s ≡ itemsIn t

@@ -5,8 +5,10 @@ use lib.ListN.{getD}
 use Rattle.octets.specs.Choice.{pick}
 use Rattle.octets.specs.Digits.{digitsAt, decimalAt}
 use Rattle.octets.specs.Texts.{ascii, has}
-use Rattle.angles.specs.Angles.{northward, eastward}
-use Rattle.headers.specs.Due.{originAt, levelAt}
+use Rattle.fields.specs.Table.{placeOf}
+use Rattle.fields.specs.declared.Item.the-variants as item
+use Rattle.fields.specs.declared.Whose.the-variants.{Uhl, AbsoluteHorizontal, AbsoluteVertical, RelativeHorizontal, RelativeVertical}
+use Rattle.headers.specs.Basis.{latitudeIn, longitudeIn, levelAt, securityIn}
 use Rattle.headers.specs.Judged.{judged}
 use Rattle.describing.specs.declared.Accuracy.{Accuracy}
 use Rattle.describing.specs.declared.Accuracy.the-variants.{Metres, Unknown}
@@ -29,16 +31,16 @@ datumAt s at = pick (has s at (ascii "MSL")) Msl E96
 unfoldable pub itemsIn : List ℕ → Description
 itemsIn s = record {
   level = levelAt s;
-  latitude = originAt northward s 12;
-  longitude = originAt eastward s 4;
-  security = getD s 32 0;
-  edition = decimalAt s 167 2;
-  version = getD s 169 0;
-  datum = datumAt s 221;
-  uhl = accuracyAt s 28;
-  absolute = record { horizontal = accuracyAt s 731; vertical = accuracyAt s 735 };
-  relative = record { horizontal = accuracyAt s 739; vertical = accuracyAt s 743 };
-  partial = decimalAt s 369 2;
+  latitude = latitudeIn s;
+  longitude = longitudeIn s;
+  security = securityIn s;
+  edition = decimalAt s (placeOf item.Edition) 2;
+  version = getD s (placeOf item.Version) 0;
+  datum = datumAt s (placeOf item.Datum);
+  uhl = accuracyAt s (placeOf (item.Accuracy Uhl));
+  absolute = record { horizontal = accuracyAt s (placeOf (item.Accuracy AbsoluteHorizontal)); vertical = accuracyAt s (placeOf (item.Accuracy AbsoluteVertical)) };
+  relative = record { horizontal = accuracyAt s (placeOf (item.Accuracy RelativeHorizontal)); vertical = accuracyAt s (placeOf (item.Accuracy RelativeVertical)) };
+  partial = decimalAt s (placeOf item.Partial) 2;
 }
 
 -- R1: given by headers that are good, and refused as those that are not

@@ -2,12 +2,12 @@
 use Rattle.layout.specs.Grid.{gridOf}
 use Rattle.angles.specs.Angles.{edgeOf}
 use Rattle.describing.specs.declared.Description.{Description}
-use Rattle.rules.specs.declared.Due.{Due}
+use Rattle.due.specs.declared.Basis.{Basis}
 use Rattle.headers.specs.declared.Facts.{Facts}
 
--- what a description makes due
-unfoldable pub dueFor : Description → Due
-dueFor d = record {
+-- by what level, origin and letter of a description its other fields are due
+unfoldable pub basisOf : Description → Basis
+basisOf d = record {
   grid = gridOf (d .level) (edgeOf (d .latitude));
   latitude = d .latitude;
   longitude = d .longitude;
@@ -16,4 +16,4 @@ dueFor d = record {
 
 -- what headers written from a description will say
 unfoldable pub factsFor : Description → Facts
-factsFor d = record { grid = dueFor d .grid; latitude = d .latitude; longitude = d .longitude; partial = d .partial }
+factsFor d = record { grid = basisOf d .grid; latitude = d .latitude; longitude = d .longitude; partial = d .partial }

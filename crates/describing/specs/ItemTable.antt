@@ -1,50 +1,40 @@
--- The thirteen items of a description, by number and name (rule W2): tests, numbers and refusals of items all go by this table.
+-- The thirteen items of a description, by number (rule W2): tests, numbers and refusals of items all go by this table.
 use Prim.Native.Nat.{ℕ}
 use mathlib.Core.List.{List, [], _∷_}
-use Rattle.fields.specs.declared.Whose.{Whose}
+use Rattle.fields.specs.declared.Item.{Item}
+use Rattle.fields.specs.declared.Item.the-variants.{Level, Latitude, Longitude, Security, Edition, Version, Datum, Accuracy, Partial}
 use Rattle.fields.specs.declared.Whose.the-variants.{Uhl, AbsoluteHorizontal, AbsoluteVertical, RelativeHorizontal, RelativeVertical}
-
-pub data Item : Type 0 where
-  level : Item
-  originLatitude : Item
-  originLongitude : Item
-  securityLetter : Item
-  edition : Item
-  matchVersion : Item
-  verticalDatum : Item
-  accuracy : Whose → Item
-  partialIndicator : Item
 
 -- W2: the number of each item
 abbrev pub itemNumber : Item → ℕ
-itemNumber level = 1
-itemNumber originLatitude = 2
-itemNumber originLongitude = 3
-itemNumber securityLetter = 4
-itemNumber edition = 5
-itemNumber matchVersion = 6
-itemNumber verticalDatum = 7
-itemNumber (accuracy Uhl) = 8
-itemNumber (accuracy AbsoluteHorizontal) = 9
-itemNumber (accuracy AbsoluteVertical) = 10
-itemNumber (accuracy RelativeHorizontal) = 11
-itemNumber (accuracy RelativeVertical) = 12
-itemNumber partialIndicator = 13
+itemNumber Level = 1
+itemNumber Latitude = 2
+itemNumber Longitude = 3
+itemNumber Security = 4
+itemNumber Edition = 5
+itemNumber Version = 6
+itemNumber Datum = 7
+itemNumber (Accuracy Uhl) = 8
+itemNumber (Accuracy AbsoluteHorizontal) = 9
+itemNumber (Accuracy AbsoluteVertical) = 10
+itemNumber (Accuracy RelativeHorizontal) = 11
+itemNumber (Accuracy RelativeVertical) = 12
+itemNumber Partial = 13
 
 -- W2: the items in the order of those numbers, which run from 1 to 13
 abbrev pub inOrder : List Item
 inOrder =
-    level
-    ∷ originLatitude
-    ∷ originLongitude
-    ∷ securityLetter
-    ∷ edition
-    ∷ matchVersion
-    ∷ verticalDatum
-    ∷ accuracy Uhl
-    ∷ accuracy AbsoluteHorizontal
-    ∷ accuracy AbsoluteVertical
-    ∷ accuracy RelativeHorizontal
-    ∷ accuracy RelativeVertical
-    ∷ partialIndicator
+    Level
+    ∷ Latitude
+    ∷ Longitude
+    ∷ Security
+    ∷ Edition
+    ∷ Version
+    ∷ Datum
+    ∷ Accuracy Uhl
+    ∷ Accuracy AbsoluteHorizontal
+    ∷ Accuracy AbsoluteVertical
+    ∷ Accuracy RelativeHorizontal
+    ∷ Accuracy RelativeVertical
+    ∷ Partial
     ∷ []

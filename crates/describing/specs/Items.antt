@@ -9,7 +9,9 @@ use Rattle.rules.specs.Rules.{isLetter, isVersion}
 use Rattle.describing.specs.declared.Accuracy.{Accuracy}
 use Rattle.describing.specs.declared.Accuracy.the-variants.{Metres, Unknown}
 use Rattle.describing.specs.declared.Description.{Description}
-use Rattle.describing.specs.ItemTable.{Item, level, originLatitude, originLongitude, securityLetter, edition, matchVersion, verticalDatum, accuracy, partialIndicator, inOrder}
+use Rattle.fields.specs.declared.Item.{Item}
+use Rattle.fields.specs.declared.Item.the-variants as item
+use Rattle.describing.specs.ItemTable.{inOrder}
 use Rattle.fields.specs.declared.Whose.{Whose}
 use Rattle.fields.specs.declared.Whose.the-variants as whose
 
@@ -27,15 +29,15 @@ accuracyFor whose.RelativeVertical d = d .relative .vertical
 
 -- W2: whether an item is in its range; angles are counted from 90 S and 180 W, and either datum is in range
 abbrev pub itemTest : Description → Item → Bool
-itemTest d level = ltb (d .level) 3
-itemTest d originLatitude = ltb (d .latitude) 180
-itemTest d originLongitude = ltb (d .longitude) 360
-itemTest d securityLetter = isLetter (d .security)
-itemTest d edition = both (leb 1 (d .edition)) (leb (d .edition) 99)
-itemTest d matchVersion = isVersion (d .version)
-itemTest d verticalDatum = true
-itemTest d (accuracy of) = accuracyRanged (accuracyFor of d)
-itemTest d partialIndicator = leb (d .partial) 99
+itemTest d item.Level = ltb (d .level) 3
+itemTest d item.Latitude = ltb (d .latitude) 180
+itemTest d item.Longitude = ltb (d .longitude) 360
+itemTest d item.Security = isLetter (d .security)
+itemTest d item.Edition = both (leb 1 (d .edition)) (leb (d .edition) 99)
+itemTest d item.Version = isVersion (d .version)
+itemTest d item.Datum = true
+itemTest d (item.Accuracy of) = accuracyRanged (accuracyFor of d)
+itemTest d item.Partial = leb (d .partial) 99
 
 unfoldable pub itemTests : Description → List Bool
 itemTests d = map (itemTest d) inOrder

@@ -33,7 +33,7 @@ fn datum_at(s: &[u8], at: usize) -> Datum
     requires { ⌜ at + 3 ≤ length (now s) ⌝ }
     ensures { λ r. ⌜ r ≡ datumAt (now (s .entry)) at ⌝ }
 {
-    if stands(s, at, &rules::texts::MSL) {
+    if stands(s, at, &due::texts::MSL) {
         Datum::Msl
     } else {
         Datum::E96
@@ -46,22 +46,22 @@ fn items_in(s: &[u8]) -> Description
 {
     Description {
         level: level_at(s),
-        latitude: origin(NORTHWARD, &s[12..20]),
-        longitude: origin(EASTWARD, &s[4..12]),
-        security: s[32],
-        edition: decimal(s, 167, 2),
-        version: s[169],
-        datum: datum_at(s, 221),
-        uhl: accuracy_at(s, 28),
+        latitude: origin(NORTHWARD, s, fields::LATITUDE),
+        longitude: origin(EASTWARD, s, fields::LONGITUDE),
+        security: s[fields::SECURITY],
+        edition: decimal(s, fields::EDITION, 2),
+        version: s[fields::VERSION],
+        datum: datum_at(s, fields::DATUM),
+        uhl: accuracy_at(s, fields::UHL_ACCURACY),
         absolute: Accuracies {
-            horizontal: accuracy_at(s, 731),
-            vertical: accuracy_at(s, 735),
+            horizontal: accuracy_at(s, fields::ABSOLUTE_HORIZONTAL),
+            vertical: accuracy_at(s, fields::ABSOLUTE_VERTICAL),
         },
         relative: Accuracies {
-            horizontal: accuracy_at(s, 739),
-            vertical: accuracy_at(s, 743),
+            horizontal: accuracy_at(s, fields::RELATIVE_HORIZONTAL),
+            vertical: accuracy_at(s, fields::RELATIVE_VERTICAL),
         },
-        partial: decimal(s, 369, 2),
+        partial: decimal(s, fields::PARTIAL, 2),
     }
 }
 

@@ -1,2 +1,3 @@
--- The fields of the headers.
+-- The fields of the headers, and the free bytes between them that are written.
 pub mod Table
+pub mod Free

@@ -23,10 +23,8 @@ pub enum Number {
     Posts,
 }
 
-// An angle: of the origin in the UHL and in the DSI, and of the edges that the corners lie on.
+// An angle that the origin makes due: the origin again in the DSI, and the edges that the corners lie on.
 pub enum Angle {
-    Latitude,
-    Longitude,
     OriginLatitude,
     OriginLongitude,
     South,
@@ -44,75 +42,137 @@ pub enum Whose {
     RelativeVertical,
 }
 
-// What a field holds.
-pub enum Kind {
-    Fixed(Text),
-    Due(Number),
-    At(Angle),
-    Accurate(Whose),
+// An item of the description: its field alone says it.
+pub enum Item {
     Level,
+    Latitude,
+    Longitude,
     Security,
-    Letter,
-    Series,
     Edition,
     Version,
-    Vertical,
-    Indicator,
+    Datum,
+    Accuracy(Whose),
+    Partial,
+}
+
+// What is due in a field, once level, origin and security letter are known.
+pub enum Due {
+    Text(Text),
+    Number(Number),
+    Angle(Angle),
+    Letter,
+    Series,
+}
+
+// What a field holds.
+pub enum Kind {
+    Item(Item),
+    Due(Due),
 }
 
 // Where a field stands, how many bytes it has, and what it holds.
 pub struct Field(pub usize, pub usize, pub Kind);
 
+// Where the items stand. Offsets count from 0 in the file: the UHL is at 0, the DSI at 80, the ACC at 728.
+pub const LONGITUDE: usize = 4;
+
+pub const LATITUDE: usize = 12;
+
+pub const LEVEL: usize = 24;
+
+pub const UHL_ACCURACY: usize = 28;
+
+pub const SECURITY: usize = 32;
+
+pub const EDITION: usize = 167;
+
+pub const VERSION: usize = 169;
+
+pub const DATUM: usize = 221;
+
+pub const PARTIAL: usize = 369;
+
+pub const ABSOLUTE_HORIZONTAL: usize = 731;
+
+pub const ABSOLUTE_VERTICAL: usize = 735;
+
+pub const RELATIVE_HORIZONTAL: usize = 739;
+
+pub const RELATIVE_VERTICAL: usize = 743;
+
+// An area of zeros among the free bytes, where it stands and how many there are; and where the date of the specification stands.
+pub struct Area(pub usize, pub usize);
+
+pub const AREAS: [Area; 4] = [Area(144, 15), Area(170, 12), Area(215, 2), Area(239, 4)];
+
+pub const DATE: usize = 217;
+
 pub const FIELDS: usize = 40;
 
-// The fields of each record in the order of judging. Offsets count from 0 in the file: the UHL is at 0, the DSI at 80, the ACC at 728.
+// The fields of each record in the order of judging.
 const UHL: [Field; 10] = [
-    Field(0, 4, Kind::Fixed(Text::Uhl1)),
-    Field(4, 8, Kind::At(Angle::Longitude)),
-    Field(12, 8, Kind::At(Angle::Latitude)),
-    Field(24, 4, Kind::Level),
-    Field(20, 4, Kind::Due(Number::LongitudeInterval)),
-    Field(28, 4, Kind::Accurate(Whose::Uhl)),
-    Field(32, 3, Kind::Security),
-    Field(47, 4, Kind::Due(Number::Columns)),
-    Field(51, 4, Kind::Due(Number::Posts)),
-    Field(55, 1, Kind::Fixed(Text::Zero)),
+    Field(0, 4, Kind::Due(Due::Text(Text::Uhl1))),
+    Field(LONGITUDE, 8, Kind::Item(Item::Longitude)),
+    Field(LATITUDE, 8, Kind::Item(Item::Latitude)),
+    Field(LEVEL, 4, Kind::Item(Item::Level)),
+    Field(20, 4, Kind::Due(Due::Number(Number::LongitudeInterval))),
+    Field(UHL_ACCURACY, 4, Kind::Item(Item::Accuracy(Whose::Uhl))),
+    Field(SECURITY, 3, Kind::Item(Item::Security)),
+    Field(47, 4, Kind::Due(Due::Number(Number::Columns))),
+    Field(51, 4, Kind::Due(Due::Number(Number::Posts))),
+    Field(55, 1, Kind::Due(Due::Text(Text::Zero))),
 ];
 
 const DSI: [Field; 24] = [
-    Field(80, 3, Kind::Fixed(Text::Dsi)),
-    Field(83, 1, Kind::Letter),
-    Field(139, 5, Kind::Series),
-    Field(167, 2, Kind::Edition),
-    Field(169, 1, Kind::Version),
-    Field(206, 9, Kind::Fixed(Text::Prf89020b)),
-    Field(221, 3, Kind::Vertical),
-    Field(224, 5, Kind::Fixed(Text::Wgs84)),
-    Field(265, 9, Kind::At(Angle::OriginLatitude)),
-    Field(274, 10, Kind::At(Angle::OriginLongitude)),
-    Field(284, 7, Kind::At(Angle::South)),
-    Field(291, 8, Kind::At(Angle::West)),
-    Field(299, 7, Kind::At(Angle::North)),
-    Field(306, 8, Kind::At(Angle::West)),
-    Field(314, 7, Kind::At(Angle::North)),
-    Field(321, 8, Kind::At(Angle::East)),
-    Field(329, 7, Kind::At(Angle::South)),
-    Field(336, 8, Kind::At(Angle::East)),
-    Field(344, 9, Kind::Fixed(Text::Orientation)),
-    Field(353, 4, Kind::Due(Number::LatitudeInterval)),
-    Field(357, 4, Kind::Due(Number::LongitudeInterval)),
-    Field(361, 4, Kind::Due(Number::Posts)),
-    Field(365, 4, Kind::Due(Number::Columns)),
-    Field(369, 2, Kind::Indicator),
+    Field(80, 3, Kind::Due(Due::Text(Text::Dsi))),
+    Field(83, 1, Kind::Due(Due::Letter)),
+    Field(139, 5, Kind::Due(Due::Series)),
+    Field(EDITION, 2, Kind::Item(Item::Edition)),
+    Field(VERSION, 1, Kind::Item(Item::Version)),
+    Field(206, 9, Kind::Due(Due::Text(Text::Prf89020b))),
+    Field(DATUM, 3, Kind::Item(Item::Datum)),
+    Field(224, 5, Kind::Due(Due::Text(Text::Wgs84))),
+    Field(265, 9, Kind::Due(Due::Angle(Angle::OriginLatitude))),
+    Field(274, 10, Kind::Due(Due::Angle(Angle::OriginLongitude))),
+    Field(284, 7, Kind::Due(Due::Angle(Angle::South))),
+    Field(291, 8, Kind::Due(Due::Angle(Angle::West))),
+    Field(299, 7, Kind::Due(Due::Angle(Angle::North))),
+    Field(306, 8, Kind::Due(Due::Angle(Angle::West))),
+    Field(314, 7, Kind::Due(Due::Angle(Angle::North))),
+    Field(321, 8, Kind::Due(Due::Angle(Angle::East))),
+    Field(329, 7, Kind::Due(Due::Angle(Angle::South))),
+    Field(336, 8, Kind::Due(Due::Angle(Angle::East))),
+    Field(344, 9, Kind::Due(Due::Text(Text::Orientation))),
+    Field(353, 4, Kind::Due(Due::Number(Number::LatitudeInterval))),
+    Field(357, 4, Kind::Due(Due::Number(Number::LongitudeInterval))),
+    Field(361, 4, Kind::Due(Due::Number(Number::Posts))),
+    Field(365, 4, Kind::Due(Due::Number(Number::Columns))),
+    Field(PARTIAL, 2, Kind::Item(Item::Partial)),
 ];
 
 const ACC: [Field; 6] = [
-    Field(728, 3, Kind::Fixed(Text::Acc)),
-    Field(731, 4, Kind::Accurate(Whose::AbsoluteHorizontal)),
-    Field(735, 4, Kind::Accurate(Whose::AbsoluteVertical)),
-    Field(739, 4, Kind::Accurate(Whose::RelativeHorizontal)),
-    Field(743, 4, Kind::Accurate(Whose::RelativeVertical)),
-    Field(783, 2, Kind::Fixed(Text::ZeroZero)),
+    Field(728, 3, Kind::Due(Due::Text(Text::Acc))),
+    Field(
+        ABSOLUTE_HORIZONTAL,
+        4,
+        Kind::Item(Item::Accuracy(Whose::AbsoluteHorizontal)),
+    ),
+    Field(
+        ABSOLUTE_VERTICAL,
+        4,
+        Kind::Item(Item::Accuracy(Whose::AbsoluteVertical)),
+    ),
+    Field(
+        RELATIVE_HORIZONTAL,
+        4,
+        Kind::Item(Item::Accuracy(Whose::RelativeHorizontal)),
+    ),
+    Field(
+        RELATIVE_VERTICAL,
+        4,
+        Kind::Item(Item::Accuracy(Whose::RelativeVertical)),
+    ),
+    Field(783, 2, Kind::Due(Due::Text(Text::ZeroZero))),
 ];
 
 // The rows of each record. No other function reads its table, which the checker would have to take apart each time.

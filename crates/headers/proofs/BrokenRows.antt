@@ -15,28 +15,29 @@ use Rattle.octets.proofs.ScanLaws.{scan-step, scan-done}
 use Rattle.octets.proofs.ChoiceLaws.{by-test, by-order}
 use Rattle.fields.specs.Table.{uhl, fields, fieldAt}
 use Rattle.headers.specs.Judged.{keeps, broken, judgedBy}
-use Rattle.rules.specs.declared.Due.{Due}
+use Rattle.due.specs.declared.Basis.{Basis}
 use Rattle.headers.specs.declared.Judged.the-variants.{Refused}
-use Rattle.fields.specs.declared.Kind.the-variants.{Indicator}
+use Rattle.fields.specs.declared.Kind.the-variants.{Item}
+use Rattle.fields.specs.declared.Item.the-variants.{Partial}
 
 -- a turn of the search, and the first of n rows from i on; `to` where none breaks its rule
-abbrev pub turn : List ℕ → Due → ℕ → ℕ → ℕ
+abbrev pub turn : List ℕ → Basis → ℕ → ℕ → ℕ
 turn s d i rest = pick (keeps s d (fieldAt i)) rest i
 
-abbrev pub firstIn : List ℕ → Due → ℕ → ℕ → ℕ → ℕ
+abbrev pub firstIn : List ℕ → Basis → ℕ → ℕ → ℕ → ℕ
 firstIn s d to i n = scan (turn s d) to i n
 
 -- what the search finds
-pub record Found (s : List ℕ) (d : Due) (i to row : ℕ) : Type 0 where
+pub record Found (s : List ℕ) (d : Basis) (i to row : ℕ) : Type 0 where
   pub low : i ≤ row
   pub high : row ≤ to
   pub kept : (j : ℕ) → i ≤ j → j < row → keeps s d (fieldAt j) ≡ true
   pub breaks : row < to → keeps s d (fieldAt row) ≡ false
 
 rest-from : (i : ℕ) → i < 40 → drop i fields ≡ fieldAt i ∷ drop (i + 1) fields
-rest-from i h = drop-cons fields i (uhl 1 1 Indicator) h ∙ ap (λ (k : ℕ). fieldAt i ∷ drop k fields) (sym (add-one i))
+rest-from i h = drop-cons fields i (uhl 1 1 (Item Partial)) h ∙ ap (λ (k : ℕ). fieldAt i ∷ drop k fields) (sym (add-one i))
 
-module _ (s : List ℕ) (d : Due) (to : ℕ) where
+module _ (s : List ℕ) (d : Basis) (to : ℕ) where
   pub found : (n i : ℕ) → i + n ≡ to → Found s d i to (firstIn s d to i n)
   unfolding scan
   found zero i e = record { low = omega arith; high = omega arith; kept = λ j a b. absurd (omega arith); breaks = λ h. absurd (omega arith) }

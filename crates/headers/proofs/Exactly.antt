@@ -10,7 +10,7 @@ use borrow.Author.Tests.{lt-ltb, le-ltb}
 use Rattle.octets.specs.Choice.{pick}
 use Rattle.octets.proofs.ChoiceLaws.{by-order, clash}
 use Rattle.answers.specs.declared.Refusal.the-variants as because
-use Rattle.headers.specs.Due.{dueIn}
+use Rattle.headers.specs.Basis.{basisIn}
 use Rattle.fields.specs.Table.{fieldAt}
 use Rattle.headers.specs.Judged.{keeps, broken, factsIn, judgedBy, judged, Follows}
 use Rattle.headers.specs.declared.Facts.{Facts}
@@ -22,30 +22,30 @@ use Rattle.headers.proofs.BrokenRows.{firstIn, Found, found, judged-par
 pub record First (s : List ℕ) (i : ℕ) : Type 0 where
   pub long : 3428 ≤ length s
   pub below : i < 40
-  pub breaks : keeps s (dueIn s) (fieldAt i) ≡ false
-  pub kept : (j : ℕ) → j < i → keeps s (dueIn s) (fieldAt j) ≡ true
+  pub breaks : keeps s (basisIn s) (fieldAt i) ≡ false
+  pub kept : (j : ℕ) → j < i → keeps s (basisIn s) (fieldAt j) ≡ true
 
 -- the answers that there are
 pub data Answer (s : List ℕ) : Judged → Type 0 where
   short : length s < 3428 → Answer s (Refused (because.Short (length s)))
-  breaks : (i : ℕ) → First s i → Answer s (Refused (broken s (dueIn s) (fieldAt i)))
+  breaks : (i : ℕ) → First s i → Answer s (Refused (broken s (basisIn s) (fieldAt i)))
   good : Follows s → Answer s (Good (factsIn s))
 
 module _ (s : List ℕ) where
   abbrev row : ℕ
-  row = firstIn s (dueIn s) 40 0 40
+  row = firstIn s (basisIn s) 40 0 40
 
-  found-row : Found s (dueIn s) 0 40 row
-  found-row = found s (dueIn s) 40 40 0 refl
+  found-row : Found s (basisIn s) 0 40 row
+  found-row = found s (basisIn s) 40 40 0 refl
 
   pub judged-short : length s < 3428 → judged s ≡ Refused (because.Short (length s))
   unfolding judged
   judged-short h = rw (lt-ltb (length s) 3428 h)
 
   -- the search over the whole table decides
-  pub judged-by-row : 3428 ≤ length s → judged s ≡ pick (ltb row 40) (Refused (broken s (dueIn s) (fieldAt row))) (Good (factsIn s))
+  pub judged-by-row : 3428 ≤ length s → judged s ≡ pick (ltb row 40) (Refused (broken s (basisIn s) (fieldAt row))) (Good (factsIn s))
   unfolding judged judgedBy
-  judged-by-row h = rw (le-ltb (length s) 3428 h) (judged-part s (dueIn s) 40 40 0 refl (omega arith))
+  judged-by-row h = rw (le-ltb (length s) 3428 h) (judged-part s (basisIn s) 40 40 0 refl (omega arith))
 
   pub answered : Answer s (judged s)
   answered =
@@ -56,7 +56,7 @@ module _ (s : List ℕ) where
       let g : judged s ≡ Good (factsIn s) = judged-by-row long ∙ rw (le-ltb row 40 h) in
       subst (Answer s) (sym g) (good (long, λ i k. found-row .kept i (omega arith) (omega arith))))
       (λ h.
-      let g : judged s ≡ Refused (broken s (dueIn s) (fieldAt row)) = judged-by-row long ∙ rw (lt-ltb row 40 h) in
+      let g : judged s ≡ Refused (broken s (basisIn s) (fieldAt row)) = judged-by-row long ∙ rw (lt-ltb row 40 h) in
       let f : First s row = record { long = long; below = h; breaks = found-row .breaks h; kept = λ j k. found-row .kept j (omega arith) k } in
       subst (Answer s) (sym g) (breaks row f)))
       (λ h. subst (Answer s) (sym (judged-short h)) (short h))
@@ -71,7 +71,7 @@ module _ (s : List ℕ) where
       (λ b. clash (f .kept row b) (found-row .breaks (omega (arith, f .below)))))
       (λ b. clash (found-row .kept i (omega arith) b) (f .breaks))
 
-  pub first-refused : (i : ℕ) → First s i → judged s ≡ Refused (broken s (dueIn s) (fieldAt i))
+  pub first-refused : (i : ℕ) → First s i → judged s ≡ Refused (broken s (basisIn s) (fieldAt i))
   first-refused i f =
       let e = same-row i f in
       judged-by-row (f .long) ∙ rw (e, lt-ltb i 40 (f .below))

@@ -14,21 +14,23 @@ use Rattle.octets.proofs.ChoiceLaws.{both-true, by-test, clash}
 use Rattle.layout.specs.Grid.{gridOf}
 use Rattle.layout.specs.Ranges.{Ranged}
 use Rattle.layout.proofs.Ranges.{ranged}
-use Rattle.angles.specs.Angles.{form, northward, eastward, isAngle, degreesIn, letterIn, isOrigin, angleOf, edgeOf}
-use Rattle.headers.specs.Due.{originAt, levelAt, dueIn}
-use Rattle.rules.specs.Rules.{holds, angleHolds}
-use Rattle.rules.specs.Asked.{DueInRange}
-use Rattle.fields.specs.Table.{fieldAt}
+use Rattle.rules.proofs.GridNumbers.{number-small}
+use Rattle.angles.specs.Angles.{northward, eastward, isAngle, degreesIn, letterIn, isOrigin, angleOf, edgeOf}
+use Rattle.headers.specs.Basis.{originAt, latitudeIn, longitudeIn, levelAt, basisIn}
+use Rattle.rules.specs.Rules.{originForm, itemHolds, dueHolds}
+use Rattle.rules.specs.Asked.{BasisInRange}
+use Rattle.fields.specs.Table.{fieldAt, placeOf}
+use Rattle.fields.specs.declared.Item.the-variants.{Level, Latitude, Longitude, Partial}
 use Rattle.headers.specs.Judged.{keeps, factsIn, judged, Follows}
 use Rattle.angles.specs.declared.Axis.{Axis}
-use Rattle.rules.specs.declared.Due.{Due}
+use Rattle.due.specs.declared.Basis.{Basis}
 use Rattle.headers.specs.declared.Facts.{Facts}
 use Rattle.headers.specs.declared.Judged.the-variants.{Good}
 use Rattle.angles.proofs.NearEdges.{edge-below}
 use Rattle.headers.proofs.Exactly.{good-follows}
 
-pub nothing-due : (s : List ℕ) (d e : Due) (i : ℕ) → i < 4 → keeps s d (fieldAt i) ≡ keeps s e (fieldAt i)
-unfolding holds angleHolds
+pub nothing-due : (s : List ℕ) (d e : Basis) (i : ℕ) → i < 4 → keeps s d (fieldAt i) ≡ keeps s e (fieldAt i)
+unfolding itemHolds dueHolds
 nothing-due s d e zero h = refl
 nothing-due s d e (suc zero) h = refl
 nothing-due s d e (suc (suc zero)) h = refl
@@ -43,7 +45,7 @@ third false false = lit< tt
 
 pub level-below : (s : List ℕ) → levelAt s < 3
 unfolding levelAt
-level-below s = third (has s 24 (ascii "0300")) (has s 24 (ascii "0030"))
+level-below s = third (has s (placeOf Level) (ascii "0300")) (has s (placeOf Level) (ascii "0030"))
 
 -- the degrees of an origin, by whether its letter is the one side's or the other's
 side : (n most : ℕ) (plus minus : Bool) → (plus ≡ true → minus ≡ false)
@@ -64,41 +66,47 @@ origin-below a degrees letter apart =
     (λ t. ne-eqb letter (a .minus) (λ q. apart (sym (eqb-true letter (a .plus) t) ∙ q)))
 
 abbrev rulesOf : Axis → List ℕ → Bool
-rulesOf a t = isOrigin a (degreesIn (form 3 (ascii "0000")) t) (letterIn (form 3 (ascii "0000")) t)
+rulesOf a t = isOrigin a (degreesIn originForm t) (letterIn originForm t)
 
 -- what the first four rules fix
 pub record Fixed (s : List ℕ) : Type 0 where
   pub level : levelAt s < 3
-  pub latitude : originAt northward s 12 < 180
-  pub longitude : originAt eastward s 4 < 360
+  pub latitude : latitudeIn s < 180
+  pub longitude : longitudeIn s < 360
 
-pub fixed : (s : List ℕ) (d : Due) → ((i : ℕ) → i < 4 → keeps s d (fieldAt i) ≡ true) → Fixed s
-unfolding holds angleHolds originAt
+pub fixed : (s : List ℕ) (d : Basis) → ((i : ℕ) → i < 4 → keeps s d (fieldAt i) ≡ true) → Fixed s
+unfolding itemHolds originAt
 fixed s d kept =
-    let east = take 8 (drop 4 s) in
-    let north = take 8 (drop 12 s) in
+    let east = take 8 (drop (placeOf Longitude) s) in
+    let north = take 8 (drop (placeOf Latitude) s) in
     record {
       level = level-below s;
       latitude =
-          origin-below northward (degreesIn (form 3 (ascii "0000")) north) (letterIn (form 3 (ascii "0000")) north) (λ q. eqb-false 78 83 refl q)
-          (both-true (isAngle (form 3 (ascii "0000")) north) (rulesOf northward north) (kept 2 (omega arith)) .1);
+          origin-below northward (degreesIn originForm north) (letterIn originForm north) (λ q. eqb-false 78 83 refl q)
+          (both-true (isAngle originForm north) (rulesOf northward north) (kept 2 (omega arith)) .1);
       longitude =
-          origin-below eastward (degreesIn (form 3 (ascii "0000")) east) (letterIn (form 3 (ascii "0000")) east) (λ q. eqb-false 69 87 refl q)
-          (both-true (isAngle (form 3 (ascii "0000")) east) (rulesOf eastward east) (kept 1 (omega arith)) .1);
+          origin-below eastward (degreesIn originForm east) (letterIn originForm east) (λ q. eqb-false 69 87 refl q)
+          (both-true (isAngle originForm east) (rulesOf eastward east) (kept 1 (omega arith)) .1);
     }
 
 -- and so the grid is within its ranges
-pub grid-ranged : (s : List ℕ) → originAt northward s 12 < 180 → Ranged (dueIn s .grid)
-unfolding dueIn
-grid-ranged s h = ranged (levelAt s) (edgeOf (originAt northward s 12)) (level-below s) (edge-below (originAt northward s 12) h)
+pub grid-ranged : (s : List ℕ) → latitudeIn s < 180 → Ranged (basisIn s .grid)
+unfolding basisIn
+grid-ranged s h = ranged (levelAt s) (edgeOf (latitudeIn s)) (level-below s) (edge-below (latitudeIn s) h)
 
--- what is due is then within its ranges
-pub due-within : (s : List ℕ) → Fixed s → DueInRange (dueIn s)
-unfolding dueIn
-due-within s f = record { origin = record { latitude = f .latitude; longitude = f .longitude }; level = grid-ranged s (f .latitude) .level }
+-- and what is due by them
+pub basis-within : (s : List ℕ) → Fixed s → BasisInRange (basisIn s)
+unfolding basisIn
+basis-within s f =
+    let grid = grid-ranged s (f .latitude) in
+    record {
+      origin = record { latitude = f .latitude; longitude = f .longitude };
+      level = grid .level;
+      numbers = number-small (basisIn s .grid) grid;
+    }
 
 pub follows-fixed : (s : List ℕ) → Follows s → Fixed s
-follows-fixed s f = fixed s (dueIn s) (λ i h. f .1 i (omega arith))
+follows-fixed s f = fixed s (basisIn s) (λ i h. f .1 i (omega arith))
 
 -- the facts of good headers
 pub record GoodFacts (s : List ℕ) (f : Facts) : Type 0 where
@@ -109,12 +117,12 @@ pub record GoodFacts (s : List ℕ) (f : Facts) : Type 0 where
   pub laid : f .grid ≡ gridOf (levelAt s) (edgeOf (f .latitude))
 
 facts-within : (s : List ℕ) → Fixed s → GoodFacts s (factsIn s)
-unfolding factsIn dueIn
+unfolding factsIn basisIn
 facts-within s f = record {
   grid = grid-ranged s (f .latitude);
   latitude = f .latitude;
   longitude = f .longitude;
-  partial = decimal-below s 369 2;
+  partial = decimal-below s (placeOf Partial) 2;
   laid = refl;
 }
 

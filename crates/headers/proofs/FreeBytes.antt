@@ -11,12 +11,13 @@ use Rattle.octets.specs.Texts.{ascii}
 use Rattle.octets.proofs.PartLaws.{byte-alike, decimal-alike, text-alike}
 use Rattle.layout.specs.Grid.{gridOf}
 use Rattle.angles.specs.Angles.{northward, eastward, edgeOf}
-use Rattle.headers.specs.Due.{originAt, levelAt, dueIn}
+use Rattle.headers.specs.Basis.{originAt, levelAt, basisIn}
 use Rattle.rules.specs.Rules.{holds}
-use Rattle.fields.specs.Table.{bytesIn, fieldAt}
+use Rattle.fields.specs.Table.{bytesIn, fieldAt, itemRow, placeOf}
+use Rattle.fields.specs.declared.Item.the-variants.{Level, Latitude, Longitude, Security, Partial}
 use Rattle.headers.specs.Judged.{keeps, broken, factsIn, judged}
 use Rattle.angles.specs.declared.Axis.{Axis}
-use Rattle.rules.specs.declared.Due.{Due}
+use Rattle.due.specs.declared.Basis.{Basis}
 use Rattle.headers.specs.declared.Judged.the-variants.{Good, Refused}
 use Rattle.headers.proofs.BrokenRows.{turn, firstIn, found-same}
 use Rattle.headers.proofs.Exactly.{judged-by-row}
@@ -28,38 +29,38 @@ SameFields s t = (i : ℕ) → i < 40 → bytesIn s (fieldAt i) ≡ bytesIn t (f
 module _ (s t : List ℕ) (same : SameFields s t) where
   pub level-alike : levelAt s ≡ levelAt t
   unfolding levelAt
-  level-alike = rw (text-alike s t 24 (ascii "0300") (same 3 (lit< tt)), text-alike s t 24 (ascii "0030") (same 3 (lit< tt)))
+  level-alike = rw (text-alike s t (placeOf Level) (ascii "0300") (same (itemRow Level) (lit< tt)), text-alike s t (placeOf Level) (ascii "0030") (same (itemRow Level) (lit< tt)))
 
   origin-alike : (a : Axis) (at : ℕ) → take 8 (drop at s) ≡ take 8 (drop at t) → originAt a s at ≡ originAt a t at
   unfolding originAt
   origin-alike a at e = rw e
 
-  pub due-alike : dueIn s ≡ dueIn t
-  unfolding dueIn
-  due-alike =
-      let latitude = origin-alike northward 12 (same 2 (lit< tt)) in
-      let longitude = origin-alike eastward 4 (same 1 (lit< tt)) in
-      let letter = byte-alike s t 32 3 (same 6 (lit< tt)) 0 (lit< tt) in
+  pub basis-alike : basisIn s ≡ basisIn t
+  unfolding basisIn
+  basis-alike =
+      let latitude = origin-alike northward (placeOf Latitude) (same (itemRow Latitude) (lit< tt)) in
+      let longitude = origin-alike eastward (placeOf Longitude) (same (itemRow Longitude) (lit< tt)) in
+      let letter = byte-alike s t (placeOf Security) 3 (same (itemRow Security) (lit< tt)) 0 (lit< tt) in
       λ k. record { grid = gridOf (level-alike k) (edgeOf (latitude k)); latitude = latitude k; longitude = longitude k; letter = letter k }
 
   facts-alike : factsIn s ≡ factsIn t
   unfolding factsIn
   facts-alike = λ k. record {
-    grid = due-alike k .grid;
-    latitude = due-alike k .latitude;
-    longitude = due-alike k .longitude;
-    partial = decimal-alike s t 369 2 (same 33 (lit< tt)) k;
+    grid = basis-alike k .grid;
+    latitude = basis-alike k .latitude;
+    longitude = basis-alike k .longitude;
+    partial = decimal-alike s t (placeOf Partial) 2 (same (itemRow Partial) (lit< tt)) k;
   }
 
   -- each row keeps or breaks its rule alike
-  kept-alike : (i : ℕ) → i < 40 → keeps s (dueIn s) (fieldAt i) ≡ keeps t (dueIn t) (fieldAt i)
+  kept-alike : (i : ℕ) → i < 40 → keeps s (basisIn s) (fieldAt i) ≡ keeps t (basisIn t) (fieldAt i)
   kept-alike i h =
       let f = fieldAt i in
-      ap (λ (d : Due). holds (f .2) d (bytesIn s f)) due-alike ∙ ap (holds (f .2) (dueIn t)) (same i h)
+      ap (λ (d : Basis). holds (f .2) d (bytesIn s f)) basis-alike ∙ ap (holds (f .2) (basisIn t)) (same i h)
 
-  rows-alike : firstIn s (dueIn s) 40 0 40 ≡ firstIn t (dueIn t) 40 0 40
+  rows-alike : firstIn s (basisIn s) 40 0 40 ≡ firstIn t (basisIn t) 40 0 40
   rows-alike =
-      found-same (turn s (dueIn s)) (turn t (dueIn t)) 40 40 0 (λ j r a b. ap (λ (x : Bool). pick x r j) (kept-alike j (omega arith)))
+      found-same (turn s (basisIn s)) (turn t (basisIn t)) 40 40 0 (λ j r a b. ap (λ (x : Bool). pick x r j) (kept-alike j (omega arith)))
 
 -- H41: headers whose fields hold the same bytes are judged alike; a refusal has its row's place, and nothing else of the bytes
 pub free-bytes : (s t : List ℕ) → 3428 ≤ length s → 3428 ≤ length t → SameFields s t → judged s ≡ judged t
@@ -67,5 +68,5 @@ free-bytes s t ls lt same =
     let row = rows-alike s t same in
     let facts = facts-alike s t same in
     judged-by-row s ls
-    ∙ (λ k. pick (ltb (row k) 40) (Refused (broken s (dueIn s) (fieldAt (row k)))) (Good (facts k)))
+    ∙ (λ k. pick (ltb (row k) 40) (Refused (broken s (basisIn s) (fieldAt (row k)))) (Good (facts k)))
     ∙ sym (judged-by-row t lt)

@@ -13,7 +13,7 @@ use Rattle.octets.proofs.TestLaws.{each, below}
 use Rattle.fields.specs.Table.{bytesIn, fieldAt}
 use Rattle.rules.specs.Rules.{widthOf, holds}
 use Rattle.headers.specs.Judged.{keeps}
-use Rattle.rules.specs.declared.Due.{Due}
+use Rattle.due.specs.declared.Basis.{Basis}
 use Rattle.fields.specs.declared.Field.{Field}
 
 pub record Row (f : Field) : Type 0 where
@@ -48,5 +48,5 @@ module _ (s : List ℕ) (i : ℕ) (h : i < 40) (f : Field) (e : f ≡ fieldAt i)
   pub row-bytes : 3428 ≤ length s → length (take (f .0 + f .1 - f .0) (drop (f .0) s)) ≡ widthOf (f .2)
   row-bytes long = ap length (lent s f) ∙ bytes-long s f (omega (arith, row-is .within)) ∙ row-is .wide
 
-  pub row-kept : (d : Due) → holds (f .2) d (take (f .0 + f .1 - f .0) (drop (f .0) s)) ≡ keeps s d (fieldAt i)
+  pub row-kept : (d : Basis) → holds (f .2) d (take (f .0 + f .1 - f .0) (drop (f .0) s)) ≡ keeps s d (fieldAt i)
   row-kept d = ap (holds (f .2) d) (lent s f) ∙ ap (keeps s d) e

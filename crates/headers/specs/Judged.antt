@@ -11,43 +11,44 @@ use Rattle.answers.specs.declared.Refusal.{Refusal}
 use Rattle.answers.specs.declared.Refusal.the-variants as because
 use Rattle.layout.specs.Grid.{headerBytes}
 use Rattle.layout.specs.declared.Frame.{Frame}
-use Rattle.fields.specs.Table.{fields, bytesIn, fieldAt}
-use Rattle.headers.specs.Due.{dueIn}
+use Rattle.fields.specs.Table.{fields, bytesIn, fieldAt, placeOf}
+use Rattle.fields.specs.declared.Item.the-variants.{Partial}
+use Rattle.headers.specs.Basis.{basisIn}
 use Rattle.rules.specs.Rules.{holds}
-use Rattle.rules.specs.declared.Due.{Due}
+use Rattle.due.specs.declared.Basis.{Basis}
 use Rattle.headers.specs.declared.Facts.{Facts}
 use Rattle.headers.specs.declared.Judged.{Judged}
 use Rattle.headers.specs.declared.Judged.the-variants.{Good, Refused}
 use Rattle.fields.specs.declared.Field.{Field}
 
 -- a field keeps its rule
-abbrev pub keeps : List ℕ → Due → Field → Bool
-keeps s d f = holds (f .2) d (bytesIn s f)
+abbrev pub keeps : List ℕ → Basis → Field → Bool
+keeps s b f = holds (f .2) b (bytesIn s f)
 
 -- N2: the refusal of a field that does not. Number and place of a broken rule are chosen here alone
-abbrev pub broken : List ℕ → Due → Field → Refusal
-broken s d f = because.Field (f .0)
+abbrev pub broken : List ℕ → Basis → Field → Refusal
+broken s b f = because.Field (f .0)
 
 -- the facts of headers that keep every rule
 unfoldable pub factsIn : List ℕ → Facts
 factsIn s = record {
-  grid = dueIn s .grid;
-  latitude = dueIn s .latitude;
-  longitude = dueIn s .longitude;
-  partial = decimalAt s 369 2;
+  grid = basisIn s .grid;
+  latitude = basisIn s .latitude;
+  longitude = basisIn s .longitude;
+  partial = decimalAt s (placeOf Partial) 2;
 }
 
 -- the first field that breaks its rule
-unfoldable pub judgedBy : List ℕ → Due → List Field → Judged
-judgedBy s d [] = Good (factsIn s)
-judgedBy s d (f ∷ fs) = pick (keeps s d f) (judgedBy s d fs) (Refused (broken s d f))
+unfoldable pub judgedBy : List ℕ → Basis → List Field → Judged
+judgedBy s b [] = Good (factsIn s)
+judgedBy s b (f ∷ fs) = pick (keeps s b f) (judgedBy s b fs) (Refused (broken s b f))
 
 unfoldable pub judged : List ℕ → Judged
-judged s = pick (ltb (length s) headerBytes) (Refused (because.Short (length s))) (judgedBy s (dueIn s) fields)
+judged s = pick (ltb (length s) headerBytes) (Refused (because.Short (length s))) (judgedBy s (basisIn s) fields)
 
 -- the headers follow every rule
 abbrev pub Follows : List ℕ → Type 0
-Follows s = (headerBytes ≤ length s) × ((i : ℕ) → i < length fields → keeps s (dueIn s) (fieldAt i) ≡ true)
+Follows s = (headerBytes ≤ length s) × ((i : ℕ) → i < length fields → keeps s (basisIn s) (fieldAt i) ≡ true)
 
 -- V1: a cell may hold voids exactly where its headers call it partial
 abbrev pub voidsAllowed : Facts → Bool

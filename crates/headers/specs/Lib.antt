@@ -1,4 +1,4 @@
 -- What headers follow, and how they are judged.
-pub mod Due
+pub mod Basis
 pub mod Judged
 pub mod Asked

@@ -4,7 +4,7 @@ ghost use Prim.Native.Nat.{ℕ, _-_};
 ghost use Rattle.octets.specs.Choice.{pick};
 ghost use Rattle.octets.specs.Scan.{scan};
 ghost use Rattle.fields.specs.Table.{fieldAt};
-ghost use Rattle.headers.specs.Due.{dueIn};
+ghost use Rattle.headers.specs.Basis.{basisIn};
 ghost use Rattle.headers.specs.Judged as by;
 ghost use Rattle.headers.specs.Asked.{RowsToJudge, LatitudeInRange};
 use crate::Facts;
@@ -15,6 +15,7 @@ use angles::EASTWARD;
 use angles::NORTHWARD;
 use angles::near_edge;
 use answers::Refusal;
+use due::Basis;
 use fields::FIELDS;
 use fields::Field;
 use layout::Bytes;
@@ -23,13 +24,12 @@ use layout::Grid;
 use layout::HEADER_BYTES;
 use layout::Interval;
 use octets::digits::decimal;
-use rules::Due;
 use rules::kinds::keeps;
 
-// Level and origin stand in the first rows, which nothing is due of.
+// Level and origin stand in the first rows, in which nothing is due by them.
 const FIRST: usize = 4;
 
-const NOTHING: Due = Due {
+const NOTHING: Basis = Basis {
     grid: Grid {
         level: 0,
         factor: 0,
@@ -47,16 +47,16 @@ const NOTHING: Due = Due {
 };
 
 // The first row from `from` on and below `to` whose field breaks its rule; `to` where none does.
-fn first_broken(s: &[u8], due: Due, from: usize, to: usize) -> usize
-    requires { ⌜ RowsToJudge (now s) due from to ⌝ }
-    ensures { λ r. ⌜ r ≡ scan (λ (i : ℕ) (rest : ℕ). pick (by.keeps (now (s .entry)) due (fieldAt i)) rest i) to from (to - from) ⌝ }
+fn first_broken(s: &[u8], basis: Basis, from: usize, to: usize) -> usize
+    requires { ⌜ RowsToJudge (now s) basis from to ⌝ }
+    ensures { λ r. ⌜ r ≡ scan (λ (i : ℕ) (rest : ℕ). pick (by.keeps (now (s .entry)) basis (fieldAt i)) rest i) to from (to - from) ⌝ }
 {
     for row in from..to {
         let field = fields::row(row);
         let at = field.0;
         let len = field.1;
         let kind = field.2;
-        if !keeps(kind, due, &s[at..at + len]) {
+        if !keeps(kind, basis, &s[at..at + len]) {
             return row;
         }
     }
@@ -64,22 +64,22 @@ fn first_broken(s: &[u8], due: Due, from: usize, to: usize) -> usize
 }
 
 // The refusal of a field that breaks its rule: number and place are chosen here alone.
-fn broken(s: &[u8], due: Due, field: Field) -> Refusal
-    ensures { λ r. ⌜ r ≡ by.broken (now (s .entry)) due field ⌝ }
+fn broken(s: &[u8], basis: Basis, field: Field) -> Refusal
+    ensures { λ r. ⌜ r ≡ by.broken (now (s .entry)) basis field ⌝ }
 {
     Refusal::Field(field.0)
 }
 
-// What level, origin and security letter make due, once the first rows keep their rules.
-fn due_in(s: &[u8]) -> Due
+// The level, the origin and the security letter, once the first rows keep their rules.
+fn basis_in(s: &[u8]) -> Basis
     requires { ⌜ LatitudeInRange (now s) ⌝ }
-    ensures { λ r. ⌜ r ≡ dueIn (now (s .entry)) ⌝ }
+    ensures { λ r. ⌜ r ≡ basisIn (now (s .entry)) ⌝ }
 {
-    let latitude = origin(NORTHWARD, &s[12..20]);
-    let longitude = origin(EASTWARD, &s[4..12]);
-    let letter = s[32];
+    let latitude = origin(NORTHWARD, s, fields::LATITUDE);
+    let longitude = origin(EASTWARD, s, fields::LONGITUDE);
+    let letter = s[fields::SECURITY];
     let grid = layout::grid_of(level_at(s), near_edge(latitude));
-    Due {
+    Basis {
         grid,
         latitude,
         longitude,
@@ -98,17 +98,17 @@ pub fn judge(s: &[u8]) -> Judged
     if early < FIRST {
         return Judged::Refused(broken(s, NOTHING, fields::row(early)));
     }
-    let due = due_in(s);
-    let row = first_broken(s, due, FIRST, FIELDS);
+    let basis = basis_in(s);
+    let row = first_broken(s, basis, FIRST, FIELDS);
     if row < FIELDS {
-        return Judged::Refused(broken(s, due, fields::row(row)));
+        return Judged::Refused(broken(s, basis, fields::row(row)));
     }
-    let grid = due.grid;
+    let grid = basis.grid;
     Judged::Good(Facts {
         grid,
-        latitude: due.latitude,
-        longitude: due.longitude,
-        partial: decimal(s, 369, 2),
+        latitude: basis.latitude,
+        longitude: basis.longitude,
+        partial: decimal(s, fields::PARTIAL, 2),
     })
 }
 

@@ -11,7 +11,9 @@ use Rattle.octets.specs.Tests.{every}
 use Rattle.octets.proofs.ChoiceLaws.{both-true}
 use Rattle.rules.specs.Rules.{isLetter, isVersion}
 use Rattle.fields.specs.declared.Whose.the-variants as whose
-use Rattle.describing.specs.ItemTable.{Item, level, originLatitude, originLongitude, securityLetter, edition, matchVersion, verticalDatum, accuracy, partialIndicator, itemNumber}
+use Rattle.fields.specs.declared.Item.{Item}
+use Rattle.fields.specs.declared.Item.the-variants as item
+use Rattle.describing.specs.ItemTable.{itemNumber}
 use Rattle.describing.specs.Items.{itemTest, itemTests, inRange}
 use Rattle.describing.specs.declared.Accuracy.{Accuracy}
 use Rattle.describing.specs.declared.Accuracy.the-variants.{Metres, Unknown}
@@ -83,19 +85,19 @@ accuracy-back (negsuc n) e = ap negsuc (omega (arith, leb-true n 0 (both-true (l
 
 number-back : (zs : List ℤ) → badNumber zs ≡ 0 → (i : Item) → numberFor (descriptionOf zs) i ≡ given zs i
 unfolding descriptionOf
-number-back zs e level = counted-back 0 2 (given zs level) (ranged-numbers zs e level)
-number-back zs e originLatitude = angle-back 90 (given zs originLatitude) (omega arith) (ranged-numbers zs e originLatitude)
-number-back zs e originLongitude = angle-back 180 (given zs originLongitude) (omega arith) (ranged-numbers zs e originLongitude)
-number-back zs e securityLetter = passes-counted isLetter letters (given zs securityLetter) (ranged-numbers zs e securityLetter)
-number-back zs e edition = counted-back 1 99 (given zs edition) (ranged-numbers zs e edition)
-number-back zs e matchVersion = passes-counted isVersion versions (given zs matchVersion) (ranged-numbers zs e matchVersion)
-number-back zs e verticalDatum = datum-back (given zs verticalDatum) (ranged-numbers zs e verticalDatum)
-number-back zs e (accuracy whose.Uhl) = accuracy-back _ (ranged-numbers zs e (accuracy whose.Uhl))
-number-back zs e (accuracy whose.AbsoluteHorizontal) = accuracy-back _ (ranged-numbers zs e (accuracy whose.AbsoluteHorizontal))
-number-back zs e (accuracy whose.AbsoluteVertical) = accuracy-back _ (ranged-numbers zs e (accuracy whose.AbsoluteVertical))
-number-back zs e (accuracy whose.RelativeHorizontal) = accuracy-back _ (ranged-numbers zs e (accuracy whose.RelativeHorizontal))
-number-back zs e (accuracy whose.RelativeVertical) = accuracy-back _ (ranged-numbers zs e (accuracy whose.RelativeVertical))
-number-back zs e partialIndicator = counted-back 0 99 (given zs partialIndicator) (ranged-numbers zs e partialIndicator)
+number-back zs e item.Level = counted-back 0 2 (given zs item.Level) (ranged-numbers zs e item.Level)
+number-back zs e item.Latitude = angle-back 90 (given zs item.Latitude) (omega arith) (ranged-numbers zs e item.Latitude)
+number-back zs e item.Longitude = angle-back 180 (given zs item.Longitude) (omega arith) (ranged-numbers zs e item.Longitude)
+number-back zs e item.Security = passes-counted isLetter letters (given zs item.Security) (ranged-numbers zs e item.Security)
+number-back zs e item.Edition = counted-back 1 99 (given zs item.Edition) (ranged-numbers zs e item.Edition)
+number-back zs e item.Version = passes-counted isVersion versions (given zs item.Version) (ranged-numbers zs e item.Version)
+number-back zs e item.Datum = datum-back (given zs item.Datum) (ranged-numbers zs e item.Datum)
+number-back zs e (item.Accuracy whose.Uhl) = accuracy-back _ (ranged-numbers zs e (item.Accuracy whose.Uhl))
+number-back zs e (item.Accuracy whose.AbsoluteHorizontal) = accuracy-back _ (ranged-numbers zs e (item.Accuracy whose.AbsoluteHorizontal))
+number-back zs e (item.Accuracy whose.AbsoluteVertical) = accuracy-back _ (ranged-numbers zs e (item.Accuracy whose.AbsoluteVertical))
+number-back zs e (item.Accuracy whose.RelativeHorizontal) = accuracy-back _ (ranged-numbers zs e (item.Accuracy whose.RelativeHorizontal))
+number-back zs e (item.Accuracy whose.RelativeVertical) = accuracy-back _ (ranged-numbers zs e (item.Accuracy whose.RelativeVertical))
+number-back zs e item.Partial = counted-back 0 99 (given zs item.Partial) (ranged-numbers zs e item.Partial)
 
 pub description-back : (zs : List ℤ) → badNumber zs ≡ 0 → (i : Item) → given (numbersOf (descriptionOf zs)) i ≡ given zs i
 unfolding numbersOf

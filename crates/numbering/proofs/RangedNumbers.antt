@@ -3,7 +3,7 @@ use mathlib.Core.Path.{_≡_}
 use mathlib.Core.Bool.{true}
 use mathlib.Core.List.{List}
 use lib.IntN.{ℤ}
-use Rattle.describing.specs.ItemTable.{Item}
+use Rattle.fields.specs.declared.Item.{Item}
 use Rattle.describing.proofs.ItemOrder.{each-item}
 use Rattle.describing.proofs.RangedItems.{first-exactly}
 use Rattle.numbering.specs.Items.{given, numberTest, numberTests, badNumber}

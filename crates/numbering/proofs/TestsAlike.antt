@@ -9,7 +9,9 @@ use lib.IntN.{pos, negℤ, _-ℤ_}
 use borrow.Author.Tests.{lt-ltb, le-ltb, le-leb, lt-leb}
 use Rattle.octets.specs.Ranges.{between}
 use Rattle.octets.proofs.ChoiceLaws.{by-order}
-use Rattle.describing.specs.ItemTable.{Item, level, originLatitude, originLongitude, securityLetter, edition, matchVersion, verticalDatum, accuracy, partialIndicator, inOrder}
+use Rattle.fields.specs.declared.Item.{Item}
+use Rattle.fields.specs.declared.Item.the-variants as items
+use Rattle.describing.specs.ItemTable.{inOrder}
 use Rattle.describing.specs.Items.{accuracyRanged, accuracyFor, itemTest, itemTests, firstFailed, badItem}
 use Rattle.describing.specs.declared.Accuracy.{Accuracy}
 use Rattle.describing.specs.declared.Accuracy.the-variants.{Metres, Unknown}
@@ -47,15 +49,15 @@ partial-alike : (n : ℕ) → between (pos 0) (pos 99) (pos n) ≡ leb n 99
 partial-alike n = rw (le-leb 0 n (omega arith))
 
 pub test-alike : (d : Description) (i : Item) → numberTest i (numberFor d i) ≡ itemTest d i
-test-alike d level = level-alike (d .level)
-test-alike d originLatitude = angle-alike 90 (d .latitude) (omega arith)
-test-alike d originLongitude = angle-alike 180 (d .longitude) (omega arith)
-test-alike d securityLetter = refl
-test-alike d edition = refl
-test-alike d matchVersion = refl
-test-alike d verticalDatum = datum-alike (d .datum)
-test-alike d (accuracy of) = accuracy-alike (accuracyFor of d)
-test-alike d partialIndicator = partial-alike (d .partial)
+test-alike d items.Level = level-alike (d .level)
+test-alike d items.Latitude = angle-alike 90 (d .latitude) (omega arith)
+test-alike d items.Longitude = angle-alike 180 (d .longitude) (omega arith)
+test-alike d items.Security = refl
+test-alike d items.Edition = refl
+test-alike d items.Version = refl
+test-alike d items.Datum = datum-alike (d .datum)
+test-alike d (items.Accuracy of) = accuracy-alike (accuracyFor of d)
+test-alike d items.Partial = partial-alike (d .partial)
 
 pub tests-alike : (d : Description) → numberTests (numbersOf d) ≡ itemTests d
 unfolding numberTests numbersOf itemTests

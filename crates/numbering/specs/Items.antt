@@ -8,7 +8,9 @@ use Rattle.octets.specs.Choice.{pick}
 use Rattle.octets.specs.Ranges.{between}
 use Rattle.rules.specs.Rules.{isLetter, isVersion}
 use Rattle.fields.specs.declared.Whose.the-variants.{Uhl, AbsoluteHorizontal, AbsoluteVertical, RelativeHorizontal, RelativeVertical}
-use Rattle.describing.specs.ItemTable.{Item, level, originLatitude, originLongitude, securityLetter, edition, matchVersion, verticalDatum, accuracy, partialIndicator, itemNumber, inOrder}
+use Rattle.fields.specs.declared.Item.{Item}
+use Rattle.fields.specs.declared.Item.the-variants as items
+use Rattle.describing.specs.ItemTable.{itemNumber, inOrder}
 use Rattle.describing.specs.Items.{firstFailed}
 use Rattle.describing.specs.Items as describing
 use Rattle.describing.specs.declared.Accuracy.{Accuracy}
@@ -39,15 +41,15 @@ counted (negsuc n) = 0
 
 -- W2: whether a number given for an item is in the item's range
 abbrev pub numberTest : Item → ℤ → Bool
-numberTest level z = between (pos 0) (pos 2) z
-numberTest originLatitude z = between (negℤ (pos 90)) (pos 89) z
-numberTest originLongitude z = between (negℤ (pos 180)) (pos 179) z
-numberTest securityLetter z = isLetter (counted z)
-numberTest edition z = between (pos 1) (pos 99) z
-numberTest matchVersion z = isVersion (counted z)
-numberTest verticalDatum z = between (pos 0) (pos 1) z
-numberTest (accuracy of) z = isAccuracy z
-numberTest partialIndicator z = between (pos 0) (pos 99) z
+numberTest items.Level z = between (pos 0) (pos 2) z
+numberTest items.Latitude z = between (negℤ (pos 90)) (pos 89) z
+numberTest items.Longitude z = between (negℤ (pos 180)) (pos 179) z
+numberTest items.Security z = isLetter (counted z)
+numberTest items.Edition z = between (pos 1) (pos 99) z
+numberTest items.Version z = isVersion (counted z)
+numberTest items.Datum z = between (pos 0) (pos 1) z
+numberTest (items.Accuracy of) z = isAccuracy z
+numberTest items.Partial z = between (pos 0) (pos 99) z
 
 unfoldable pub numberTests : List ℤ → List Bool
 numberTests zs = map (λ (i : Item). numberTest i (given zs i)) inOrder
@@ -67,23 +69,23 @@ accuracyFor (negsuc n) = Unknown
 -- W2: the description that thirteen numbers say; latitudes are counted from 90 S, longitudes from 180 W
 unfoldable pub descriptionOf : List ℤ → Description
 descriptionOf zs = record {
-  level = counted (given zs level);
-  latitude = counted (given zs originLatitude +ℤ pos 90);
-  longitude = counted (given zs originLongitude +ℤ pos 180);
-  security = counted (given zs securityLetter);
-  edition = counted (given zs edition);
-  version = counted (given zs matchVersion);
-  datum = datumFor (given zs verticalDatum);
-  uhl = accuracyFor (given zs (accuracy Uhl));
+  level = counted (given zs items.Level);
+  latitude = counted (given zs items.Latitude +ℤ pos 90);
+  longitude = counted (given zs items.Longitude +ℤ pos 180);
+  security = counted (given zs items.Security);
+  edition = counted (given zs items.Edition);
+  version = counted (given zs items.Version);
+  datum = datumFor (given zs items.Datum);
+  uhl = accuracyFor (given zs (items.Accuracy Uhl));
   absolute = record {
-    horizontal = accuracyFor (given zs (accuracy AbsoluteHorizontal));
-    vertical = accuracyFor (given zs (accuracy AbsoluteVertical));
+    horizontal = accuracyFor (given zs (items.Accuracy AbsoluteHorizontal));
+    vertical = accuracyFor (given zs (items.Accuracy AbsoluteVertical));
   };
   relative = record {
-    horizontal = accuracyFor (given zs (accuracy RelativeHorizontal));
-    vertical = accuracyFor (given zs (accuracy RelativeVertical));
+    horizontal = accuracyFor (given zs (items.Accuracy RelativeHorizontal));
+    vertical = accuracyFor (given zs (items.Accuracy RelativeVertical));
   };
-  partial = counted (given zs partialIndicator);
+  partial = counted (given zs items.Partial);
 }
 
 -- W2: and the other way: -1 where an accuracy is not available, 0 for MSL and 1 for E96
@@ -96,15 +98,15 @@ accuracyNumber (Metres m) = pos m
 accuracyNumber Unknown = negℤ (pos 1)
 
 abbrev pub numberFor : Description → Item → ℤ
-numberFor d level = pos (d .level)
-numberFor d originLatitude = pos (d .latitude) -ℤ pos 90
-numberFor d originLongitude = pos (d .longitude) -ℤ pos 180
-numberFor d securityLetter = pos (d .security)
-numberFor d edition = pos (d .edition)
-numberFor d matchVersion = pos (d .version)
-numberFor d verticalDatum = datumNumber (d .datum)
-numberFor d (accuracy of) = accuracyNumber (describing.accuracyFor of d)
-numberFor d partialIndicator = pos (d .partial)
+numberFor d items.Level = pos (d .level)
+numberFor d items.Latitude = pos (d .latitude) -ℤ pos 90
+numberFor d items.Longitude = pos (d .longitude) -ℤ pos 180
+numberFor d items.Security = pos (d .security)
+numberFor d items.Edition = pos (d .edition)
+numberFor d items.Version = pos (d .version)
+numberFor d items.Datum = datumNumber (d .datum)
+numberFor d (items.Accuracy of) = accuracyNumber (describing.accuracyFor of d)
+numberFor d items.Partial = pos (d .partial)
 
 unfoldable pub numbersOf : Description → List ℤ
 numbersOf d = map (numberFor d) inOrder

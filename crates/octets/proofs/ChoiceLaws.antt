@@ -20,6 +20,12 @@ by-test false f g = g refl
 pub clash : {C : Type 0} {b : Bool} → b ≡ true → b ≡ false → C
 clash t f = absurd (false≢true (sym f ∙ t))
 
+-- tests that pass alike are the same
+pub same-test : (a b : Bool) → (a ≡ true → b ≡ true) → (b ≡ true → a ≡ true) → a ≡ b
+same-test true b f g = sym (f refl)
+same-test false true f g = g refl
+same-test false false f g = refl
+
 -- by cases on an order
 pub by-order : {C : Type 0} (a b : ℕ) → (a ≤ b → C) → (b < a → C) → C
 by-order a b f g = elim (decLe a b) [ yes h ↦ f h | no h ↦ g (lt-of-not-le h) ]

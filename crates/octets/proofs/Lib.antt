@@ -5,6 +5,7 @@ pub mod ListLaws
 pub mod ScanLaws
 pub mod SearchLaws
 pub mod PasteLaws
+pub mod PutLaws
 pub mod PlaceLaws
 pub mod NumberLaws
 pub mod FrontLaws
@@ -12,6 +13,7 @@ pub mod SumLaws
 pub mod DigitLaws
 pub mod TextLaws
 pub mod PartLaws
+pub mod DigitTexts
 pub mod JoinedLaws
 pub mod WordLaws
 pub mod Signed

@@ -1,18 +1,18 @@
 -- Laws of fixed texts: the steps of a comparison, its bound, and that a text stands where it is found.
 use Prim.Native.Nat.{ℕ, suc, _+_, _<_, _≤_}
-use native.Mathlib.Nat.{le-antisymm}
+use native.Mathlib.Nat.{le-antisymm, add-zero}
 use native.Mathlib.Numerals.{add-one}
 use native.Mathlib.Omega.{arith}
-use mathlib.Core.Path.{_≡_, refl, _∙_}
-use mathlib.Core.Bool.{true}
-use mathlib.Core.List.{List, [], _∷_}
+use mathlib.Core.Path.{_≡_, refl, sym, ap, _∙_}
+use mathlib.Core.Bool.{Bool, true}
+use mathlib.Core.List.{List, [], _∷_, _++_}
 use lib.Dec.{eqb, lit≤}
-use lib.ListN.{length, getD, take, drop}
-use lib.Seq.{drop-cons, drop-length}
+use lib.ListN.{length, getD, take, drop, length-append}
+use lib.Seq.{drop-cons, drop-length, take-length}
 use borrow.Author.Tests.{eq-eqb, ne-eqb, eqb-true}
-use Rattle.octets.specs.Choice.{pick}
+use Rattle.octets.specs.Choice.{pick, both, either}
 use Rattle.octets.specs.Texts.{differ, has}
-use Rattle.octets.proofs.ChoiceLaws.{by-test}
+use Rattle.octets.proofs.ChoiceLaws.{by-test, same-test}
 
 pub differ-bound : (s : List ℕ) (at : ℕ) (want : List ℕ) → differ s at want ≤ length want
 unfolding differ
@@ -62,3 +62,59 @@ module _ (s : List ℕ) where
       let r : take (length ws) (drop (at + 1) s) ≡ ws = rw (add-one at) (cc) in
       let d = eqb-true (differ s (at + 1) ws) (length ws) (part-has (at + 1) ws (omega arith) r) in
       rw (eq-eqb (getD s at 0) w t) (eq-eqb (suc (differ s (at + 1) ws)) (suc (length ws)) (omega arith))
+
+-- a text stands in itself
+pub text-self : (t : List ℕ) → has t 0 t ≡ true
+text-self t = part-has t 0 t (omega arith) (take-length t)
+
+eqb-suc : (a b : ℕ) → eqb (suc a) (suc b) ≡ eqb a b
+eqb-suc a b =
+    same-test (eqb (suc a) (suc b)) (eqb a b)
+    (λ e. eq-eqb a b (omega (arith, eqb-true (suc a) (suc b) e)))
+    (λ e. eq-eqb (suc a) (suc b) (omega (arith, eqb-true a b e)))
+
+-- one byte stands where it is
+pub has-byte : (s : List ℕ) (at c : ℕ) → has s at (c ∷ []) ≡ eqb (getD s at 0) c
+unfolding differ
+has-byte s at c =
+    by-test (eqb (getD s at 0) c)
+    (λ e. rw e)
+    (λ e. rw e)
+
+-- a text of two parts stands where each part does
+pub has-append : (s : List ℕ) (at : ℕ) (xs ys : List ℕ) → has s at (xs ++ ys) ≡ both (has s at xs) (has s (at + length xs) ys)
+unfolding differ
+has-append s at [] ys = rw (add-zero at)
+has-append s at (x ∷ xs) ys =
+    let next : at + 1 + length xs ≡ at + suc (length xs) = omega arith in
+    by-test (eqb (getD s at 0) x)
+    (λ e.
+    rw (e, ← next)
+    (eqb-suc (differ s (at + 1) (xs ++ ys)) (length (xs ++ ys))
+    ∙ has-append s (at + 1) xs ys
+    ∙ ap (λ (b : Bool). both b (has s (at + 1 + length xs) ys)) (sym (eqb-suc (differ s (at + 1) xs) (length xs)))))
+    (λ e. rw (e, ne-eqb 0 (suc (length (xs ++ ys))) (λ z. omega arith), ne-eqb 0 (suc (length xs)) (λ z. omega arith)))
+
+-- a text whose last byte may be another too, by a test of its own: the front stands, and the last byte or the test does
+pub ends-either : (s : List ℕ) (at : ℕ) (xs : List ℕ) (c : ℕ) (other : Bool)
+    → either (has s at (xs ++ (c ∷ []))) (both (eqb (suc (differ s at (xs ++ (c ∷ [])))) (length (xs ++ (c ∷ [])))) other)
+    ≡ both (has s at xs) (either (eqb (getD s (at + length xs) 0) c) other)
+unfolding differ
+ends-either s at [] c other =
+    rw (add-zero at)
+    (by-test (eqb (getD s at 0) c)
+    (λ e. rw e)
+    (λ e. rw e))
+ends-either s at (x ∷ xs) c other =
+    let next : at + 1 + length xs ≡ at + suc (length xs) = omega arith in
+    by-test (eqb (getD s at 0) x)
+    (λ e.
+    let text = xs ++ (c ∷ []) in
+    rw (e, ← next)
+    ((λ k. either (eqb-suc (differ s (at + 1) text) (length text) k) (both (eqb-suc (suc (differ s (at + 1) text)) (length text) k) other))
+    ∙ ends-either s (at + 1) xs c other
+    ∙ ap (λ (b : Bool). both b (either (eqb (getD s (at + 1 + length xs) 0) c) other)) (sym (eqb-suc (differ s (at + 1) xs) (length xs)))))
+    (λ e.
+    let text = xs ++ (c ∷ []) in
+    let long : length text ≡ length xs + 1 = length-append xs (c ∷ []) in
+    rw (e, ne-eqb 0 (suc (length text)) (λ z. omega arith), ne-eqb 1 (suc (length text)) (λ z. omega arith), ne-eqb 0 (suc (length xs)) (λ z. omega arith)))

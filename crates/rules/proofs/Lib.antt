@@ -1,1 +1,3 @@
--- The proofs of the tests, one to a kind of field.
+-- What is due in a field is what its rule says, and the numbers of a laid grid have four digits.
+pub mod DueHolds
+pub mod GridNumbers

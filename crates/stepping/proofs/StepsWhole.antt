@@ -14,7 +14,7 @@ use Rattle.layout.specs.Grid.{gridOf, laid}
 use Rattle.layout.specs.declared.Grid.{Grid}
 use Rattle.layout.specs.declared.Laid.the-variants.{Out}
 use Rattle.layout.proofs.Ranges.{laid-in}
-use Rattle.headers.specs.Due.{levelAt}
+use Rattle.headers.specs.Basis.{levelAt}
 use Rattle.angles.specs.Angles.{edgeOf}
 use Rattle.headers.specs.Judged.{judged, factsIn, frameIn, Follows}
 use Rattle.headers.specs.declared.Judged.{Judged}

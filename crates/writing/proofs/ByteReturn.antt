@@ -14,7 +14,7 @@ use Rattle.layout.specs.Grid.{gridOf}
 use Rattle.layout.specs.declared.Grid.{Grid}
 use Rattle.layout.proofs.ZoneOne.{zone-one-most}
 use Rattle.posts.proofs.RoundTrip.{heights-more}
-use Rattle.headers.specs.Due.{levelAt}
+use Rattle.headers.specs.Basis.{levelAt}
 use Rattle.angles.specs.Angles.{edgeOf}
 use Rattle.headers.specs.Judged.{factsIn, frameIn}
 use Rattle.angles.proofs.NearEdges.{edge-below}

@@ -7,14 +7,14 @@ use Rattle.layout.specs.Ranges.{Ranged}
 use Rattle.layout.proofs.Ranges.{ranged}
 use Rattle.angles.specs.Angles.{edgeOf}
 use Rattle.describing.specs.Items.{inRange}
-use Rattle.describing.specs.Facts.{dueFor, factsFor}
+use Rattle.describing.specs.Facts.{basisOf, factsFor}
 use Rattle.describing.specs.declared.Description.{Description}
 use Rattle.writing.specs.Cell.{frameFor}
 use Rattle.angles.proofs.NearEdges.{edge-below}
 use Rattle.describing.proofs.RangedItems.{ranged-items}
 
 pub due-ranged : (d : Description) → inRange d ≡ true → (g : Grid) → g ≡ frameFor d .grid → Ranged g
-unfolding factsFor dueFor
+unfolding factsFor basisOf
 due-ranged d e g due =
     let i = ranged-items d e in
     rw due (ranged (d .level) (edgeOf (d .latitude)) (i .level) (edge-below (d .latitude) (i .latitude)))

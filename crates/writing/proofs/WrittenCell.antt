@@ -10,7 +10,7 @@ use Rattle.describing.specs.Items.{inRange}
 use Rattle.headers.specs.Judged.{judged, factsIn}
 use Rattle.headers.specs.declared.Judged.the-variants.{Good}
 use Rattle.describing.specs.Described.{itemsIn}
-use Rattle.describing.specs.Facts.{dueFor, factsFor}
+use Rattle.describing.specs.Facts.{basisOf, factsFor}
 use Rattle.composing.specs.Written.{headersFor}
 use Rattle.describing.specs.declared.Description.{Description}
 use Rattle.composing.proofs.WrittenGood as describing
@@ -23,9 +23,9 @@ use Rattle.writing.specs.Cell.{postsDue, frameFor}
 
 -- headers say what they were written for, whatever follows them
 facts-back : (d : Description) (rest : List ℕ) → inRange d ≡ true → factsIn (headersFor d ++ rest) ≡ factsFor d
-unfolding factsIn factsFor itemsIn dueFor
+unfolding factsIn factsFor itemsIn basisOf
 facts-back d rest e =
-    let due = describing.written-due d rest e in
+    let due = describing.written-basis d rest e in
     let items = describing.written-items d rest e in
     λ k. record { grid = due k .grid; latitude = due k .latitude; longitude = due k .longitude; partial = items k .partial }
 

@@ -1,5 +1,5 @@
 -- `put_security`: a byte, and blanks after it.
-use Rattle.composing.proofs.Puts.{put-byte}
+use Rattle.octets.proofs.PutLaws.{put-byte}
 use Rattle.composing.proofs.put.put_security.Statement.{statement}
 use Rattle.composing.proofs.put.put_security.Tie as tie
 use Rattle.octets.specs.Texts.{ascii}

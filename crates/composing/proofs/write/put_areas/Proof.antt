@@ -3,7 +3,9 @@ use Prim.Native.Nat.{ℕ, _+_, _-_, _≤_}
 use Rattle.composing.proofs.TableTurns.{area-fits, areas-on, areas-done}
 use Rattle.composing.proofs.write.put_areas.Statement.{statement}
 use Rattle.composing.proofs.write.put_areas.Tie as tie
-use Rattle.composing.specs.Written.{areas, withAreas}
+use Rattle.composing.specs.Written.{withAreas}
+use Rattle.fields.specs.Free.{areas}
+use Rattle.layout.specs.Grid.{headerBytes}
 use borrow.Author.Needs.{needs}
 use lib.ListN.{length, drop}
 use mathlib.Core.List.{List}
@@ -11,7 +13,7 @@ use mathlib.Core.Path.{_≡_, refl, sym, ap, _∙_}
 use native.Mathlib.Omega.{arith}
 
 abbrev Inv-loop : tie.InvT-loop
-Inv-loop head₀ i₀ head i = (i ≤ 4) × ((length head ≡ 3428) × (withAreas head (drop i areas) ≡ withAreas head₀ areas))
+Inv-loop head₀ i₀ head i = (i ≤ 4) × ((length head ≡ headerBytes) × (withAreas head (drop i areas) ≡ withAreas head₀ areas))
 
 abbrev μ-loop : tie.MeasureT-loop
 μ-loop head₀ i₀ head i = 4 - i

@@ -7,16 +7,17 @@ use Rattle.composing.proofs.write.put_fields.Tie as tie
 use Rattle.fields.specs.Table.{fields}
 use Rattle.composing.specs.Written.{withFields}
 use Rattle.octets.proofs.PasteLaws.{length-part}
+use Rattle.layout.specs.Grid.{headerBytes}
 use borrow.Author.Needs.{needs}
 use lib.ListN.{length, drop}
 use mathlib.Core.Path.{_≡_, refl, sym, _∙_}
 use native.Mathlib.Omega.{arith}
 
 abbrev Inv-loop : tie.InvT-loop
-Inv-loop head₀ d grid i₀ head i = (i ≤ 40) × ((length head ≡ 3428) × (withFields head d (drop i fields) ≡ withFields head₀ d fields))
+Inv-loop head₀ d basis i₀ head i = (i ≤ 40) × ((length head ≡ headerBytes) × (withFields head d (drop i fields) ≡ withFields head₀ d fields))
 
 abbrev μ-loop : tie.MeasureT-loop
-μ-loop head₀ d grid i₀ head i = 40 - i
+μ-loop head₀ d basis i₀ head i = 40 - i
 
 within : (c : tie.After-row Inv-loop μ-loop) → Row (c .row .result)
 within c = rw (c .row .ensures) (row (c .before .before .loop .i) (omega arith))
@@ -45,7 +46,7 @@ put-field-requires c κs =
     let r = within (c .before .before) in
     let wide = length-part (c .before .before .before .before .loop .head) (f .0) (f .0 + f .1) (omega arith) (omega (arith, r .within)) in
     let asked = c .before .before .before .before .before .before .pre in
-    record { wide = omega arith; grid = asked .grid; origin = asked .origin }
+    record { wide = omega arith; basis = asked .basis; origin = asked .origin }
 
 add-i : tie.Need-add-i Inv-loop μ-loop
 add-i c = search needs

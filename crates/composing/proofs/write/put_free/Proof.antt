@@ -2,10 +2,12 @@
 use Prim.Native.Nat.{ℕ}
 use Rattle.composing.proofs.write.put_free.Statement.{statement}
 use Rattle.composing.proofs.write.put_free.Tie as tie
-use Rattle.composing.specs.Written.{areas, withAreas, freeBytes}
+use Rattle.composing.specs.Written.{withAreas, freeBytes}
+use Rattle.fields.specs.Free.{areas, dateAt}
 use Rattle.octets.proofs.PasteLaws.{paste-all}
 use Rattle.octets.specs.Pastes.{pasted}
 use Rattle.octets.specs.Texts.{ascii}
+use Rattle.layout.specs.Grid.{headerBytes}
 use borrow.Author.Needs.{needs}
 use lib.ListN.{replicate, length-replicate}
 use mathlib.Core.List.{List}
@@ -31,9 +33,9 @@ unfolding freeBytes
 returns c =
     let fill = c .before .before .before .before .before .before .before .before .before .before .before in
     let start = fill .before .before .before in
-    let blank = fill .fill .ensures ∙ paste-all (start .args .head .now) (replicate 3428 32) (length-replicate {A = ℕ} 3428 32 ∙ sym (start .pre)) in
+    let blank = fill .fill .ensures ∙ paste-all (start .args .head .now) (replicate headerBytes 32) (length-replicate {A = ℕ} headerBytes 32 ∙ sym (start .pre)) in
     c .before .before .paste .ensures
-    ∙ ap (λ (s : List ℕ). pasted s 217 (ascii "0005")) (c .before .before .before .before .before .before .before .put-areas .ensures ∙ ap (λ (s : List ℕ). withAreas s areas) blank)
+    ∙ ap (λ (s : List ℕ). pasted s dateAt (ascii "0005")) (c .before .before .before .before .before .before .before .put-areas .ensures ∙ ap (λ (s : List ℕ). withAreas s areas) blank)
 
 pub put-free-spec : {M : Type 1} → statement M
 put-free-spec =

@@ -4,6 +4,7 @@ use Rattle.composing.proofs.WrittenLength.{headers-over}
 use Rattle.composing.proofs.write.put_headers.Statement.{statement}
 use Rattle.composing.proofs.write.put_headers.Tie as tie
 use Rattle.octets.proofs.PasteLaws.{length-part}
+use Rattle.composing.proofs.TableTurns.{basis-is}
 use borrow.Author.Needs.{needs}
 use native.Mathlib.Omega.{arith}
 
@@ -20,7 +21,7 @@ put-all-requires : tie.Need-put-all-requires
 put-all-requires c κs =
     let s = c .before .before in
     let r = ranged-items (s .args .d) (s .pre .ranged) in
-    record { wide = length-part (s .args .out .now) 0 3428 (omega arith) (s .pre .room); grid = s .pre .grid; origin = omega arith }
+    record { wide = length-part (s .args .out .now) 0 3428 (omega arith) (s .pre .room); basis = basis-is (s .args .d) (s .args .grid) (s .pre .grid); origin = omega arith }
 
 same-length : tie.Need-same-length
 same-length c = search needs

@@ -2,7 +2,7 @@
 use Rattle.describing.proofs.LaidGrids.{edge-within}
 use Rattle.describing.proofs.facts.facts_for.Statement.{statement}
 use Rattle.describing.proofs.facts.facts_for.Tie as tie
-use Rattle.describing.specs.Facts.{dueFor, factsFor}
+use Rattle.describing.specs.Facts.{basisOf, factsFor}
 use borrow.Author.Needs.{needs}
 
 near-edge-requires : tie.Need-near-edge-requires
@@ -12,7 +12,7 @@ grid-of-requires : tie.Need-grid-of-requires
 grid-of-requires c κs = edge-within (c .before .args .d) (c .near-edge .result) (c .near-edge .ensures) (c .before .pre)
 
 returns : tie.Need-returns
-unfolding factsFor dueFor
+unfolding factsFor basisOf
 returns c = rw (c .grid-of .ensures, c .before .near-edge .ensures)
 
 pub facts-for-spec : {M : Type 1} → statement M

@@ -12,10 +12,10 @@ use mathlib.Core.Path.{_≡_, refl, sym, _∙_}
 use native.Mathlib.Omega.{arith}
 
 abbrev Inv-loop : tie.InvT-loop
-Inv-loop s due from to row₀ row = (from ≤ row) × ((row ≤ to) × (firstIn s due to row (to - row) ≡ firstIn s due to from (to - from)))
+Inv-loop s basis from to row₀ row = (from ≤ row) × ((row ≤ to) × (firstIn s basis to row (to - row) ≡ firstIn s basis to from (to - from)))
 
 abbrev μ-loop : tie.MeasureT-loop
-μ-loop s due from to row₀ row = to - row
+μ-loop s basis from to row₀ row = to - row
 
 loop-holds : tie.Need-loop-holds Inv-loop μ-loop
 loop-holds c = (omega arith, (omega arith, refl))
@@ -46,24 +46,24 @@ keeps-requires c κs =
     let r = c .before in
     let l = r .before .before in
     let start = l .before .before in
-    record { wide = row-bytes (start .args .s .now) (l .loop .row) (omega arith) (r .row .result) (r .row .ensures) (start .pre .whole); due = start .pre .due }
+    record { wide = row-bytes (start .args .s .now) (l .loop .row) (omega arith) (r .row .result) (r .row .ensures) (start .pre .whole); basis = start .pre .basis }
 
 -- what the test found is whether the row keeps its rule
 tested : (c : tie.After-keeps Inv-loop μ-loop) →
     let l = c .before .before .before .before in
-    keeps (l .before .before .args .s .now) (l .before .before .args .due) (fieldAt (l .loop .row)) ≡ c .keeps .result
+    keeps (l .before .before .args .s .now) (l .before .before .args .basis) (fieldAt (l .loop .row)) ≡ c .keeps .result
 tested c =
     let r = c .before .before in
     let l = r .before .before in
     let a = l .before .before .args in
-    sym (c .keeps .ensures ∙ row-kept (a .s .now) (l .loop .row) (omega arith) (r .row .result) (r .row .ensures) (a .due))
+    sym (c .keeps .ensures ∙ row-kept (a .s .now) (l .loop .row) (omega arith) (r .row .result) (r .row .ensures) (a .basis))
 
 returns : tie.Need-returns Inv-loop μ-loop
 returns c =
     let k = c .before in
     let l = k .before .before .before .before in
     let a = l .before .before .args in
-    sym (search-stop (a .s .now) (a .due) (a .to) (l .loop .row) (omega arith) (tested k ∙ not-true _ (c .if1 .taken))) ∙ l .loop .inv .1 .1
+    sym (search-stop (a .s .now) (a .basis) (a .to) (l .loop .row) (omega arith) (tested k ∙ not-true _ (c .if1 .taken))) ∙ l .loop .inv .1 .1
 
 add-row : tie.Need-add-row Inv-loop μ-loop
 add-row c = search needs
@@ -79,7 +79,7 @@ loop-again c =
       omega arith,
       (
         omega arith,
-        sym (search-on (a .s .now) (a .due) (a .to) (l .loop .row) (omega arith) (tested k ∙ not-false _ (c .if1 .left))) ∙ l .loop .inv .1 .1,
+        sym (search-on (a .s .now) (a .basis) (a .to) (l .loop .row) (omega arith) (tested k ∙ not-false _ (c .if1 .left))) ∙ l .loop .inv .1 .1,
       ),
     )
 
@@ -87,7 +87,7 @@ returns-2 : tie.Need-returns-2 Inv-loop μ-loop
 returns-2 c =
     let l = c .before in
     let a = l .before .before .args in
-    sym (search-done (a .s .now) (a .due) (a .to) (l .loop .row) (omega arith)) ∙ l .loop .inv .1 .1
+    sym (search-done (a .s .now) (a .basis) (a .to) (l .loop .row) (omega arith)) ∙ l .loop .inv .1 .1
 
 pub first-broken-spec : {M : Type 1} → statement M
 first-broken-spec =

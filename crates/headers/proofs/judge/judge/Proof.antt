@@ -2,12 +2,16 @@
 use Rattle.headers.proofs.judge.judge.Statement.{statement}
 use Rattle.headers.proofs.judge.judge.Tie as tie
 use Prim.Native.Nat.{_<_, _≤_}
-use Rattle.headers.proofs.FirstFour.{Fixed, due-within}
+use Rattle.headers.proofs.FirstFour.{Fixed, basis-within}
 use Rattle.headers.proofs.TwoParts.{early-refused, early-fixed, late-refused, all-kept}
-use Rattle.headers.specs.Due.{dueIn}
+use Rattle.headers.specs.Basis.{basisIn}
 use Rattle.headers.specs.Judged.{broken, factsIn, judged}
 use Rattle.fields.specs.Table.{fieldAt}
-use Rattle.rules.specs.declared.Due.{Due}
+use Rattle.fields.specs.declared.Number.{Number}
+use Rattle.fields.specs.declared.Number.the-variants as number
+use Rattle.due.specs.Due.{numberOf}
+use lib.Dec.{lit<}
+use Rattle.due.specs.declared.Basis.{Basis}
 use Rattle.headers.specs.declared.Judged.the-variants.{Good, Refused}
 use native.Mathlib.Omega.{arith}
 use borrow.Author.Needs.{needs}
@@ -15,7 +19,7 @@ use Rattle.headers.proofs.Exactly.{judged-short}
 use mathlib.Core.Path.{_≡_, sym, ap, _∙_}
 
 -- what the code passes where nothing is due
-abbrev nothing : Due
+abbrev nothing : Basis
 nothing = record {
   grid = record {
     level = 0;
@@ -30,16 +34,22 @@ nothing = record {
   letter = 0;
 }
 
+nothing-small : (n : Number) → numberOf n (nothing .grid) < 10000
+nothing-small number.LatitudeInterval = lit< tt
+nothing-small number.LongitudeInterval = lit< tt
+nothing-small number.Columns = lit< tt
+nothing-small number.Posts = lit< tt
+
 -- past the first four rows
 fixed-here : (c : tie.Else2) → Fixed (c .before .before .before .before .args .s .now)
 fixed-here c = early-fixed _ (c .before .before .if1 .left) nothing _ (c .before .first-broken .ensures) (c .if2 .left)
 
 -- after the second search
 late-found : (c : tie.After-first-broken2) → let s = c .before .before .before .before .before .before .args .s .now in let i = c .first-broken2 .result in
-    (i < 40 → judged s ≡ Refused (broken s (dueIn s) (fieldAt i))) × (40 ≤ i → judged s ≡ Good (factsIn s))
+    (i < 40 → judged s ≡ Refused (broken s (basisIn s) (fieldAt i))) × (40 ≤ i → judged s ≡ Good (factsIn s))
 late-found c =
     let b = c .before .before .before in
-    let late = rw (c .before .due-in .ensures) at (c .first-broken2 .ensures) in (
+    let late = rw (c .before .basis-in .ensures) at (c .first-broken2 .ensures) in (
       λ h. late-refused _ (b .before .if1 .left) nothing _ (b .first-broken .ensures) (c .before .before .if2 .left) _ late h,
       λ h. all-kept _ (b .before .if1 .left) nothing _ (b .first-broken .ensures) (c .before .before .if2 .left) _ late h,
     )
@@ -48,7 +58,12 @@ returns : tie.Need-returns
 returns c = sym (judged-short _ (c .if1 .taken))
 
 first-broken-requires : tie.Need-first-broken-requires
-first-broken-requires c κs = search needs
+first-broken-requires c κs = record {
+  ordered = omega arith;
+  rows = omega arith;
+  whole = omega arith;
+  basis = record { origin = record { latitude = lit< tt; longitude = lit< tt }; level = lit< tt; numbers = nothing-small };
+}
 
 row-requires : tie.Need-row-requires
 row-requires c κs = search needs
@@ -63,11 +78,11 @@ returns-2 c =
     ap Refused (c .broken .ensures ∙ ap (broken s nothing) (c .before .row .ensures))
     ∙ sym (early-refused s (b .before .if1 .left) nothing (b .first-broken .result) (b .first-broken .ensures) (c .before .before .if2 .taken))
 
-due-in-requires : tie.Need-due-in-requires
-due-in-requires c κs = record { whole = c .before .before .if1 .left; latitude = fixed-here c .latitude }
+basis-in-requires : tie.Need-basis-in-requires
+basis-in-requires c κs = record { whole = c .before .before .if1 .left; latitude = fixed-here c .latitude }
 
 first-broken-requires-2 : tie.Need-first-broken-requires-2
-first-broken-requires-2 c κs = record { ordered = omega arith; rows = omega arith; whole = omega arith; due = rw (c .due-in .ensures) (due-within _ (fixed-here (c .before))) }
+first-broken-requires-2 c κs = record { ordered = omega arith; rows = omega arith; whole = omega arith; basis = rw (c .basis-in .ensures) (basis-within _ (fixed-here (c .before))) }
 
 row-requires-2 : tie.Need-row-requires-2
 row-requires-2 c κs = search needs
@@ -80,7 +95,7 @@ returns-3 c =
     let b = c .before .before .before in
     let s = b .before .before .before .before .before .before .args .s .now in
     ap Refused
-    (c .broken2 .ensures ∙ ap (λ (d : Due). broken s d (c .before .row2 .result)) (b .before .due-in .ensures) ∙ ap (broken s (dueIn s)) (c .before .row2 .ensures))
+    (c .broken2 .ensures ∙ ap (λ (d : Basis). broken s d (c .before .row2 .result)) (b .before .basis-in .ensures) ∙ ap (broken s (basisIn s)) (c .before .row2 .ensures))
     ∙ sym (late-found b .0 (c .before .before .if3 .taken))
 
 decimal-requires : tie.Need-decimal-requires
@@ -91,9 +106,9 @@ unfolding factsIn
 returns-4 c =
     let b = c .before .before .before in
     ap Good (λ k. record {
-      grid = b .before .due-in .ensures k .grid;
-      latitude = b .before .due-in .ensures k .latitude;
-      longitude = b .before .due-in .ensures k .longitude;
+      grid = b .before .basis-in .ensures k .grid;
+      latitude = b .before .basis-in .ensures k .latitude;
+      longitude = b .before .basis-in .ensures k .longitude;
       partial = c .decimal .ensures .0 k;
     })
     ∙ sym (late-found b .1 (c .before .before .if3 .left))
@@ -107,7 +122,7 @@ judge-spec =
     row-requires
     broken-requires
     returns-2
-    due-in-requires
+    basis-in-requires
     first-broken-requires-2
     row-requires-2
     broken-requires-2

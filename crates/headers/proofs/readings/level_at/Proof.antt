@@ -1,7 +1,7 @@
 -- `level_at`: the first interval that stands.
 use Rattle.headers.proofs.readings.level_at.Statement.{statement}
 use Rattle.headers.proofs.readings.level_at.Tie as tie
-use Rattle.headers.specs.Due.{levelAt}
+use Rattle.headers.specs.Basis.{levelAt}
 use borrow.Author.Needs.{needs}
 use mathlib.Core.Path.{sym, _∙_}
 
