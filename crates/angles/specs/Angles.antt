@@ -73,7 +73,3 @@ angleText f a angle = digitsOf (f .digits) (degreesOf a angle) ++ f .zeros ++ (l
 -- H42: a letter that may stand at the end of a corner at this angle, whatever its own is
 abbrev pub mayTurn : Axis → ℕ → ℕ → Bool
 mayTurn a angle letter = both (eitherLetter a (degreesOf a angle)) (either (eqb letter (a .plus)) (eqb letter (a .minus)))
-
--- Z1: the near edge of a cell whose origin lies so many degrees north of 90 S
-unfoldable pub edgeOf : ℕ → ℕ
-edgeOf latitude = pick (leb 90 latitude) (latitude - 90) (89 - latitude)

@@ -2,7 +2,7 @@
 ghost use mathlib.Core.Path.{_≡_};
 ghost use Prim.Native.Nat.{suc, _+_};
 ghost use lib.ListN.{length};
-ghost use Rattle.angles.specs.Angles.{form, degreesOf, letterOf, isOrigin, mayTurn, angleText, edgeOf};
+ghost use Rattle.angles.specs.Angles.{form, degreesOf, letterOf, isOrigin, mayTurn, angleText};
 use octets::choices::both;
 use octets::choices::either;
 
@@ -75,15 +75,4 @@ pub fn put_angle(field: &mut [u8], digits: usize, zeros: &[u8], axis: Axis, angl
     octets::digits::put_digits(field, 0, digits, degrees(axis, angle));
     octets::pastes::paste(field, digits, zeros);
     field[digits + zeros.len()] = letter(axis, angle);
-}
-
-// The near edge of a cell, from the latitude of its origin.
-pub fn near_edge(latitude: usize) -> usize
-    ensures { λ r. ⌜ r ≡ edgeOf latitude ⌝ }
-{
-    if 90 <= latitude {
-        latitude - 90
-    } else {
-        89 - latitude
-    }
 }

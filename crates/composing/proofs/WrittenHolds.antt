@@ -16,10 +16,11 @@ use Rattle.layout.specs.Levels.{latitudeInterval}
 use Rattle.layout.specs.Grid.{gridOf}
 use Rattle.layout.specs.Ranges.{Ranged}
 use Rattle.layout.proofs.Ranges.{ranged}
-use Rattle.angles.specs.Angles.{northward, eastward, degreesIn, letterIn, isOrigin, degreesOf, angleText, edgeOf}
+use Rattle.angles.specs.Angles.{northward, eastward, degreesIn, letterIn, isOrigin, degreesOf, angleText}
+use Rattle.layout.specs.Zones.{edgeOf}
 use Rattle.angles.specs.declared.Axis.{Axis}
 use Rattle.angles.proofs.AngleTexts.{letter-back, degrees-back, angle-is, degrees-small, is-origin}
-use Rattle.angles.proofs.NearEdges.{edge-below}
+use Rattle.layout.proofs.NearEdges.{edge-below}
 use Rattle.fields.specs.declared.Item.{Item}
 use Rattle.fields.specs.declared.Item.the-variants as item
 use Rattle.fields.specs.declared.Kind.{Kind}

@@ -2,9 +2,8 @@
 use mathlib.Core.Path.{_≡_, refl}
 use mathlib.Core.List.{[], _∷_, map}
 use Rattle.layout.specs.Levels.{latitudeInterval, postsOf}
-use Rattle.layout.specs.Zones.{nearEdge, factorAmong, factorOf}
+use Rattle.layout.specs.Zones.{edgeOf, factorAmong, factorOf}
 use Rattle.layout.specs.Grid.{longitudeInterval, columnsOf, cellBytes, gridOf}
-use Rattle.angles.specs.Angles.{edgeOf}
 use Rattle.octets.specs.Numbers.{bytesOfWords}
 use Rattle.octets.specs.Places.{places}
 use Rattle.octets.specs.Sums.{sumOf}
@@ -15,10 +14,11 @@ use Rattle.posts.specs.Words.{heightOf, postOf, inRange, wordAllowed}
 use Rattle.storing.specs.Stored.{stored}
 use Rattle.locating.specs.Position.{southWest}
 use Rattle.editing.specs.Edit.{storedIn}
+use Rattle.dted.specs.Grid.{fromSouth}
 use Rattle.demands.specs.Marked.{Example, table, made, givens, answers}
 
 pub marked : map made givens ≡ answers
-unfolding made nearEdge factorAmong factorOf latitudeInterval postsOf longitudeInterval columnsOf cellBytes gridOf edgeOf southWest heightOf postOf inRange wordAllowed wordOf places sumOf preamble bytesOfWords sealed columnOfWords pasted stored storedIn
+unfolding made fromSouth factorAmong factorOf latitudeInterval postsOf longitudeInterval columnsOf cellBytes gridOf edgeOf southWest heightOf postOf inRange wordAllowed wordOf places sumOf preamble bytesOfWords sealed columnOfWords pasted stored storedIn
 marked = refl
 
 -- and none is missing: the marks of the table's rows

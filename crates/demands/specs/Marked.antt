@@ -5,10 +5,9 @@ use mathlib.Core.List.{List, [], _∷_, map}
 use lib.IntN.{ℤ, pos, negℤ}
 use lib.ListN.{length, drop, replicate}
 use Rattle.octets.specs.Choice.{pick}
-use Rattle.layout.specs.Zones.{nearEdge}
+use Rattle.layout.specs.Zones.{edgeOf}
 use Rattle.layout.specs.Grid.{longitudeInterval, columnsOf, cellBytes, gridOf}
 use Rattle.columns.specs.Column.{sealed, columnOf, wordAt, sumAt}
-use Rattle.angles.specs.Angles.{edgeOf}
 use Rattle.headers.specs.declared.Facts.{Facts}
 use Rattle.posts.specs.Words.{wordAllowed, postOf}
 use Rattle.posts.specs.declared.Post.{Post}
@@ -19,6 +18,7 @@ use Rattle.editing.specs.Edit.{storedIn}
 use Rattle.locating.specs.Position.{southWest, nearestColumn, nearestPost}
 use Rattle.locating.specs.declared.position.Within.{Within}
 use Rattle.locating.specs.declared.position.Within.the-variants as within
+use Rattle.dted.specs.Grid.{fromSouth}
 
 -- a whole-degree latitude, north or south
 abbrev pub north : ℕ → ℤ
@@ -26,6 +26,10 @@ north degrees = pos degrees
 
 abbrev pub south : ℕ → ℤ
 south degrees = negℤ (pos degrees)
+
+-- the near edge of a cell whose origin lies there, by the one definition that every call's grid is laid out with
+abbrev pub edgeAt : ℤ → ℕ
+edgeAt latitude = edgeOf (fromSouth latitude)
 
 -- what an example gives
 pub data Given : Type 0 where
@@ -76,9 +80,9 @@ onlyPost = record { start = 0; posts = 1; voids = false; word = 0 }
 
 -- what the definitions make of what is given
 unfoldable pub made : Given → Is
-made (interval level latitude) = number (longitudeInterval level (nearEdge latitude))
-made (columns level latitude) = number (columnsOf level (nearEdge latitude))
-made (bytes level latitude) = number (cellBytes level (nearEdge latitude))
+made (interval level latitude) = number (longitudeInterval level (edgeAt latitude))
+made (columns level latitude) = number (columnsOf level (edgeAt latitude))
+made (bytes level latitude) = number (cellBytes level (edgeAt latitude))
 made (checksum body) = octets (drop (length body) (sealed body))
 made (column k zs) = octets (drop (sumAt (length zs)) (columnOf k zs))
 made (edited body z) = octets (drop (wordAt 0) (storedIn (sealed body) onlyPost 0 z))

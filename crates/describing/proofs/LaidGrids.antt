@@ -3,10 +3,10 @@ use Prim.Native.Nat.{ℕ}
 use mathlib.Core.Path.{_≡_}
 use mathlib.Core.Bool.{true}
 use Rattle.layout.specs.Asked.{HasGrid}
-use Rattle.angles.specs.Angles.{edgeOf}
+use Rattle.layout.specs.Zones.{edgeOf}
 use Rattle.describing.specs.Items.{inRange}
 use Rattle.describing.specs.declared.Description.{Description}
-use Rattle.angles.proofs.NearEdges.{edge-below}
+use Rattle.layout.proofs.NearEdges.{edge-below}
 use Rattle.describing.proofs.RangedItems.{ranged-items}
 
 pub edge-within : (d : Description) (edge : ℕ) → edge ≡ edgeOf (d .latitude) → inRange d ≡ true → HasGrid (d .level) edge

@@ -1,6 +1,6 @@
 -- What a description makes due, and what headers written from it will say (rules W1 and W3).
 use Rattle.layout.specs.Grid.{gridOf}
-use Rattle.angles.specs.Angles.{edgeOf}
+use Rattle.layout.specs.Zones.{edgeOf}
 use Rattle.describing.specs.declared.Description.{Description}
 use Rattle.due.specs.declared.Basis.{Basis}
 use Rattle.headers.specs.declared.Facts.{Facts}

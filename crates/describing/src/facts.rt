@@ -4,8 +4,8 @@ ghost use mathlib.Core.Bool.{true};
 ghost use Rattle.describing.specs.Items.{inRange};
 ghost use Rattle.describing.specs.Facts.{factsFor};
 use crate::Description;
-use angles::near_edge;
 use headers::Facts;
+use layout::zones::near_edge;
 
 // The facts of a description whose items are in range.
 pub fn facts_for(d: Description) -> Facts

@@ -1,1 +1,2 @@
 -- The proofs of the C calls.
+pub mod Latitudes

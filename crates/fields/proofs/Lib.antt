@@ -1,2 +1,3 @@
--- The proofs of the functions that read the tables.
+-- The laws of the field table, and the proofs of the functions that read it.
 mod Records
+pub mod ItemRows

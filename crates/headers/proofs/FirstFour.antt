@@ -15,7 +15,8 @@ use Rattle.layout.specs.Grid.{gridOf}
 use Rattle.layout.specs.Ranges.{Ranged}
 use Rattle.layout.proofs.Ranges.{ranged}
 use Rattle.rules.proofs.GridNumbers.{number-small}
-use Rattle.angles.specs.Angles.{northward, eastward, isAngle, degreesIn, letterIn, isOrigin, angleOf, edgeOf}
+use Rattle.angles.specs.Angles.{northward, eastward, isAngle, degreesIn, letterIn, isOrigin, angleOf}
+use Rattle.layout.specs.Zones.{edgeOf}
 use Rattle.headers.specs.Basis.{originAt, latitudeIn, longitudeIn, levelAt, basisIn}
 use Rattle.rules.specs.Rules.{originForm, itemHolds, dueHolds}
 use Rattle.rules.specs.Asked.{BasisInRange}
@@ -26,7 +27,7 @@ use Rattle.angles.specs.declared.Axis.{Axis}
 use Rattle.due.specs.declared.Basis.{Basis}
 use Rattle.headers.specs.declared.Facts.{Facts}
 use Rattle.headers.specs.declared.Judged.the-variants.{Good}
-use Rattle.angles.proofs.NearEdges.{edge-below}
+use Rattle.layout.proofs.NearEdges.{edge-below}
 use Rattle.headers.proofs.Exactly.{good-follows}
 
 pub nothing-due : (s : List ℕ) (d e : Basis) (i : ℕ) → i < 4 → keeps s d (fieldAt i) ≡ keeps s e (fieldAt i)

@@ -10,7 +10,8 @@ use Rattle.octets.specs.Choice.{pick}
 use Rattle.octets.specs.Texts.{ascii}
 use Rattle.octets.proofs.PartLaws.{byte-alike, decimal-alike, text-alike}
 use Rattle.layout.specs.Grid.{gridOf}
-use Rattle.angles.specs.Angles.{northward, eastward, edgeOf}
+use Rattle.angles.specs.Angles.{northward, eastward}
+use Rattle.layout.specs.Zones.{edgeOf}
 use Rattle.headers.specs.Basis.{originAt, levelAt, basisIn}
 use Rattle.rules.specs.Rules.{holds}
 use Rattle.fields.specs.Table.{bytesIn, fieldAt, itemRow, placeOf}

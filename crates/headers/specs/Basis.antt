@@ -5,7 +5,8 @@ use lib.ListN.{getD, take, drop}
 use Rattle.octets.specs.Choice.{pick}
 use Rattle.octets.specs.Texts.{ascii, has}
 use Rattle.layout.specs.Grid.{gridOf}
-use Rattle.angles.specs.Angles.{northward, eastward, degreesIn, letterIn, angleOf, edgeOf}
+use Rattle.angles.specs.Angles.{northward, eastward, degreesIn, letterIn, angleOf}
+use Rattle.layout.specs.Zones.{edgeOf}
 use Rattle.angles.specs.declared.Axis.{Axis}
 use Rattle.fields.specs.Table.{placeOf}
 use Rattle.fields.specs.declared.Item.the-variants.{Level, Latitude, Longitude, Security}

@@ -13,7 +13,6 @@ use crate::readings::level_at;
 use crate::readings::origin;
 use angles::EASTWARD;
 use angles::NORTHWARD;
-use angles::near_edge;
 use answers::Refusal;
 use due::Basis;
 use fields::FIELDS;
@@ -23,6 +22,7 @@ use layout::Frame;
 use layout::Grid;
 use layout::HEADER_BYTES;
 use layout::Interval;
+use layout::zones::near_edge;
 use octets::digits::decimal;
 use rules::kinds::keeps;
 

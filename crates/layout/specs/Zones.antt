@@ -1,8 +1,8 @@
 -- Latitude zones I to V (rules Z1 to Z3).
-use Prim.Native.Nat.{ℕ}
+use Prim.Native.Nat.{ℕ, _-_}
 use mathlib.Core.List.{List, [], _∷_}
 use lib.IntN.{ℤ, pos, negsuc}
-use lib.Dec.{ltb}
+use lib.Dec.{leb, ltb}
 use Rattle.octets.specs.Choice.{pick}
 
 -- Z1: the whole-degree parallel nearer the equator: a for an origin latitude a of 0 or more, else -(a + 1).
@@ -10,6 +10,10 @@ use Rattle.octets.specs.Choice.{pick}
 unfoldable pub nearEdge : ℤ → ℕ
 nearEdge (pos a) = a
 nearEdge (negsuc n) = n
+
+-- Z1 again, as every call has it: of an origin that lies so many degrees north of 90 S
+unfoldable pub edgeOf : ℕ → ℕ
+edgeOf latitude = pick (leb 90 latitude) (latitude - 90) (89 - latitude)
 
 -- Z2: the near edges of each zone lie below its bound, and from the bound before on
 abbrev pub bounds : List ℕ

@@ -1,20 +1,20 @@
 // Latitude zones: the near edge of a cell, and the zone's factor.
 ghost use mathlib.Core.Path.{_≡_};
-ghost use Rattle.layout.specs.Zones.{nearEdge, factorOf};
+ghost use Rattle.layout.specs.Zones.{edgeOf, factorOf};
 
 // Zones I to V: each ends before its bound, and its longitude interval is so many latitude intervals.
 const BOUNDS: [usize; 5] = [50, 70, 75, 80, 90];
 
 const FACTORS: [usize; 5] = [1, 2, 3, 4, 6];
 
-// The whole-degree parallel of a cell nearer the equator, from the latitude of its origin.
-pub fn near_edge(latitude: i64) -> usize
-    ensures { λ r. ⌜ r ≡ nearEdge latitude ⌝ }
+// The whole-degree parallel of a cell nearer the equator, from the latitude of its origin, counted from 90 S.
+pub fn near_edge(latitude: usize) -> usize
+    ensures { λ r. ⌜ r ≡ edgeOf latitude ⌝ }
 {
-    if latitude < 0 {
-        (-1 - latitude) as usize
+    if 90 <= latitude {
+        latitude - 90
     } else {
-        latitude as usize
+        89 - latitude
     }
 }
 

@@ -15,7 +15,7 @@ use Rattle.layout.specs.declared.Grid.{Grid}
 use Rattle.layout.specs.declared.Frame.{Frame}
 use Rattle.layout.specs.declared.Laid.{Laid}
 use Rattle.layout.specs.declared.Laid.the-variants.{Out, NoLevel, NoZone}
-use Rattle.angles.specs.Angles.{edgeOf}
+use Rattle.layout.specs.Zones.{edgeOf}
 use Rattle.headers.specs.Judged.{judged, frameOf}
 use Rattle.headers.specs.declared.Facts.{Facts}
 use Rattle.headers.specs.declared.Judged.the-variants as headers

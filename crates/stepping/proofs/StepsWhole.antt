@@ -15,13 +15,13 @@ use Rattle.layout.specs.declared.Grid.{Grid}
 use Rattle.layout.specs.declared.Laid.the-variants.{Out}
 use Rattle.layout.proofs.Ranges.{laid-in}
 use Rattle.headers.specs.Basis.{levelAt}
-use Rattle.angles.specs.Angles.{edgeOf}
+use Rattle.layout.specs.Zones.{edgeOf}
 use Rattle.headers.specs.Judged.{judged, factsIn, frameIn, Follows}
 use Rattle.headers.specs.declared.Judged.{Judged}
 use Rattle.headers.specs.declared.Judged.the-variants.{Good, Refused}
 use Rattle.headers.proofs.Exactly.{good-follows, follows-good}
 use Rattle.headers.proofs.FirstFour.{good-facts, level-below}
-use Rattle.angles.proofs.NearEdges.{edge-below}
+use Rattle.layout.proofs.NearEdges.{edge-below}
 use Rattle.headers.proofs.SameHeaders.{same-headers}
 use Rattle.reading.specs.Intake.{takenBy, taken}
 use Rattle.reading.proofs.CellExactly.{taken-framed}

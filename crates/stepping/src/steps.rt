@@ -4,7 +4,6 @@ ghost use Prim.Native.Nat.{_≤_};
 ghost use Rattle.answers.specs.Told as told;
 ghost use Rattle.layout.specs.Ranges.{Ranged};
 ghost use Rattle.stepping.specs.Steps.{saidOf, saidOfColumn, Step, wanted};
-use angles::near_edge;
 use answers::Refusal;
 use answers::Verdict;
 use columns::Judged;
@@ -12,6 +11,7 @@ use headers::judge::frame_of;
 use layout::Frame;
 use layout::HEADER_BYTES;
 use layout::Laid;
+use layout::zones::near_edge;
 use reading::intake::end;
 
 // The columns still due: of which grid, and which is next.

@@ -15,9 +15,9 @@ use Rattle.layout.specs.declared.Grid.{Grid}
 use Rattle.layout.proofs.ZoneOne.{zone-one-most}
 use Rattle.posts.proofs.RoundTrip.{heights-more}
 use Rattle.headers.specs.Basis.{levelAt}
-use Rattle.angles.specs.Angles.{edgeOf}
+use Rattle.layout.specs.Zones.{edgeOf}
 use Rattle.headers.specs.Judged.{factsIn, frameIn}
-use Rattle.angles.proofs.NearEdges.{edge-below}
+use Rattle.layout.proofs.NearEdges.{edge-below}
 use Rattle.headers.proofs.FirstFour.{level-below}
 use Rattle.columns.specs.Column.{columnOf, wordsIn, heightsIn}
 use Rattle.columns.proofs.ColumnWords.{good-allowed}

@@ -5,12 +5,12 @@ use mathlib.Core.Bool.{true}
 use Rattle.layout.specs.declared.Grid.{Grid}
 use Rattle.layout.specs.Ranges.{Ranged}
 use Rattle.layout.proofs.Ranges.{ranged}
-use Rattle.angles.specs.Angles.{edgeOf}
+use Rattle.layout.specs.Zones.{edgeOf}
 use Rattle.describing.specs.Items.{inRange}
 use Rattle.describing.specs.Facts.{basisOf, factsFor}
 use Rattle.describing.specs.declared.Description.{Description}
 use Rattle.writing.specs.Cell.{frameFor}
-use Rattle.angles.proofs.NearEdges.{edge-below}
+use Rattle.layout.proofs.NearEdges.{edge-below}
 use Rattle.describing.proofs.RangedItems.{ranged-items}
 
 pub due-ranged : (d : Description) → inRange d ≡ true → (g : Grid) → g ≡ frameFor d .grid → Ranged g

@@ -4,17 +4,27 @@ use mathlib.Core.Path.{_≡_, sym, ap, _∙_}
 use mir.Facts.{toZ-ofZ}
 use Rattle.dted.specs.Grid.{saidOfLaid, gridTold}
 use Rattle.layout.specs.Grid.{laid}
+use Rattle.layout.specs.Zones.{edgeOf}
 use Rattle.layout.specs.declared.Laid.{Laid}
+use Rattle.dted.proofs.Latitudes.{laid-alike}
 use borrow.Author.Needs.{needs}
 use Rattle.dted.proofs.grids.dted_grid.Statement.{statement}
 use Rattle.dted.proofs.grids.dted_grid.Tie as tie
 
 -- what was laid out is what the level and the latitude make due
-found : (c : tie.After-lay) (x : Laid) → c .lay .result ≡ x → gridTold (c .before .before .args .level) (c .before .before .args .latitude) ≡ saidOfLaid x
+found : (c : tie.After-lay) (x : Laid) → c .lay .result ≡ x →
+    let a = c .before .before .before .args in
+    gridTold (a .level) (a .latitude) ≡ saidOfLaid x
 unfolding gridTold
 found c x e =
-    let edge = rw (toZ-ofZ (c .before .before .fits .latitude)) at (c .before .near-edge .ensures) in
-    ap saidOfLaid (sym (ap (laid (c .before .before .args .level)) edge) ∙ sym (c .lay .ensures) ∙ e)
+    let n = c .before in
+    let s = n .before .before in
+    let south = rw (toZ-ofZ (s .fits .latitude)) at (n .before .from-south .ensures) in
+    let edge = n .near-edge .ensures ∙ ap edgeOf south in
+    ap saidOfLaid (sym (laid-alike (s .args .level) (s .args .latitude)) ∙ sym (ap (laid (s .args .level)) edge) ∙ sym (c .lay .ensures) ∙ e)
+
+from-south-requires : tie.Need-from-south-requires
+from-south-requires c κs = search needs
 
 near-edge-requires : tie.Need-near-edge-requires
 near-edge-requires c κs = search needs
@@ -55,6 +65,7 @@ pub dted-grid-spec : {M : Type 1} → statement M
 dted-grid-spec =
     tie.close
     (tie.spec
+    from-south-requires
     near-edge-requires
     lay-requires
     enum-known-grid

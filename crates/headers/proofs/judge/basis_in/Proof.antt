@@ -3,7 +3,7 @@ use Rattle.headers.proofs.judge.basis_in.Statement.{statement}
 use Rattle.headers.proofs.judge.basis_in.Tie as tie
 use Rattle.headers.specs.Basis.{latitudeIn, basisIn}
 use Rattle.headers.proofs.FirstFour.{level-below}
-use Rattle.angles.proofs.NearEdges.{edge-below}
+use Rattle.layout.proofs.NearEdges.{edge-below}
 use borrow.Author.Needs.{needs}
 
 origin-requires : tie.Need-origin-requires

@@ -5,8 +5,7 @@ use mathlib.Core.Path.{_≡_}
 use lib.IntN.{pos, _-ℤ_}
 use borrow.Author.Tests.{le-leb, lt-leb, lt-ltb, le-ltb}
 use Rattle.octets.proofs.ChoiceLaws.{by-order}
-use Rattle.layout.specs.Zones.{nearEdge}
-use Rattle.angles.specs.Angles.{edgeOf}
+use Rattle.layout.specs.Zones.{nearEdge, edgeOf}
 
 pub edge-is-near : (latitude : ℕ) → edgeOf latitude ≡ nearEdge (pos latitude -ℤ pos 90)
 unfolding edgeOf nearEdge
