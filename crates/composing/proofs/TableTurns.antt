@@ -20,7 +20,7 @@ use Rattle.fields.specs.Table.{fields, fieldAt}
 use Rattle.composing.specs.Written.{textFor, withFields, withAreas}
 use Rattle.describing.specs.declared.Description.{Description}
 use Rattle.fields.specs.Free.{areas}
-use Rattle.fields.specs.declared.Area.{Area}
+use Rattle.fields.specs.declared.free.Area.{Area}
 use Rattle.fields.specs.declared.Field.{Field}
 use Rattle.composing.proofs.TextWidths.{length-text}
 use Rattle.headers.proofs.TableRows.{Row, row}

@@ -18,7 +18,7 @@ use Rattle.fields.specs.Table.{bytesIn, fieldAt}
 use Rattle.composing.specs.Written.{withAreas, textFor, freeBytes, headersFor}
 use Rattle.describing.specs.declared.Description.{Description}
 use Rattle.fields.specs.Free.{areas, dateAt}
-use Rattle.fields.specs.declared.Area.{Area}
+use Rattle.fields.specs.declared.free.Area.{Area}
 use Rattle.composing.proofs.FieldsApart.{length-fields, field-shown}
 
 -- every area lies in the first 785 bytes

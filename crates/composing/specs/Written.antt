@@ -9,7 +9,7 @@ use Rattle.layout.specs.Grid.{headerBytes}
 use Rattle.angles.specs.Angles.{northward, eastward, angleText}
 use Rattle.fields.specs.Table.{fields}
 use Rattle.fields.specs.Free.{areas, dateAt}
-use Rattle.fields.specs.declared.Area.{Area}
+use Rattle.fields.specs.declared.free.Area.{Area}
 use Rattle.fields.specs.declared.Field.{Field}
 use Rattle.fields.specs.declared.Item.{Item}
 use Rattle.fields.specs.declared.Item.the-variants as item

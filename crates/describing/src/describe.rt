@@ -46,22 +46,22 @@ fn items_in(s: &[u8]) -> Description
 {
     Description {
         level: level_at(s),
-        latitude: origin(NORTHWARD, s, fields::LATITUDE),
-        longitude: origin(EASTWARD, s, fields::LONGITUDE),
-        security: s[fields::SECURITY],
-        edition: decimal(s, fields::EDITION, 2),
-        version: s[fields::VERSION],
-        datum: datum_at(s, fields::DATUM),
-        uhl: accuracy_at(s, fields::UHL_ACCURACY),
+        latitude: origin(NORTHWARD, s, fields::places::LATITUDE),
+        longitude: origin(EASTWARD, s, fields::places::LONGITUDE),
+        security: s[fields::places::SECURITY],
+        edition: decimal(s, fields::places::EDITION, 2),
+        version: s[fields::places::VERSION],
+        datum: datum_at(s, fields::places::DATUM),
+        uhl: accuracy_at(s, fields::places::UHL_ACCURACY),
         absolute: Accuracies {
-            horizontal: accuracy_at(s, fields::ABSOLUTE_HORIZONTAL),
-            vertical: accuracy_at(s, fields::ABSOLUTE_VERTICAL),
+            horizontal: accuracy_at(s, fields::places::ABSOLUTE_HORIZONTAL),
+            vertical: accuracy_at(s, fields::places::ABSOLUTE_VERTICAL),
         },
         relative: Accuracies {
-            horizontal: accuracy_at(s, fields::RELATIVE_HORIZONTAL),
-            vertical: accuracy_at(s, fields::RELATIVE_VERTICAL),
+            horizontal: accuracy_at(s, fields::places::RELATIVE_HORIZONTAL),
+            vertical: accuracy_at(s, fields::places::RELATIVE_VERTICAL),
         },
-        partial: decimal(s, fields::PARTIAL, 2),
+        partial: decimal(s, fields::places::PARTIAL, 2),
     }
 }
 

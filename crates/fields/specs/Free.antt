@@ -2,7 +2,7 @@
 use Prim.Native.Nat.{ℕ, _+_, _-_}
 use mathlib.Core.List.{List, [], _∷_}
 use Rattle.fields.specs.Table.{dsiAt}
-use Rattle.fields.specs.declared.Area.{Area}
+use Rattle.fields.specs.declared.free.Area.{Area}
 
 -- an area of zeros, by its first and last position in the DSI
 abbrev pub zeros : ℕ → ℕ → Area

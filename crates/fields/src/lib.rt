@@ -3,6 +3,9 @@ ghost use mathlib.Core.Path.{_≡_};
 ghost use Prim.Native.Nat.{_+_, _<_};
 ghost use Rattle.fields.specs.Table.{fieldAt};
 
+pub mod free;
+pub mod places;
+
 // A fixed text.
 pub enum Text {
     Uhl1,
@@ -73,51 +76,21 @@ pub enum Kind {
 // Where a field stands, how many bytes it has, and what it holds.
 pub struct Field(pub usize, pub usize, pub Kind);
 
-// Where the items stand. Offsets count from 0 in the file: the UHL is at 0, the DSI at 80, the ACC at 728.
-pub const LONGITUDE: usize = 4;
-
-pub const LATITUDE: usize = 12;
-
-pub const LEVEL: usize = 24;
-
-pub const UHL_ACCURACY: usize = 28;
-
-pub const SECURITY: usize = 32;
-
-pub const EDITION: usize = 167;
-
-pub const VERSION: usize = 169;
-
-pub const DATUM: usize = 221;
-
-pub const PARTIAL: usize = 369;
-
-pub const ABSOLUTE_HORIZONTAL: usize = 731;
-
-pub const ABSOLUTE_VERTICAL: usize = 735;
-
-pub const RELATIVE_HORIZONTAL: usize = 739;
-
-pub const RELATIVE_VERTICAL: usize = 743;
-
-// An area of zeros among the free bytes, where it stands and how many there are; and where the date of the specification stands.
-pub struct Area(pub usize, pub usize);
-
-pub const AREAS: [Area; 4] = [Area(144, 15), Area(170, 12), Area(215, 2), Area(239, 4)];
-
-pub const DATE: usize = 217;
-
 pub const FIELDS: usize = 40;
 
 // The fields of each record in the order of judging.
 const UHL: [Field; 10] = [
     Field(0, 4, Kind::Due(Due::Text(Text::Uhl1))),
-    Field(LONGITUDE, 8, Kind::Item(Item::Longitude)),
-    Field(LATITUDE, 8, Kind::Item(Item::Latitude)),
-    Field(LEVEL, 4, Kind::Item(Item::Level)),
+    Field(places::LONGITUDE, 8, Kind::Item(Item::Longitude)),
+    Field(places::LATITUDE, 8, Kind::Item(Item::Latitude)),
+    Field(places::LEVEL, 4, Kind::Item(Item::Level)),
     Field(20, 4, Kind::Due(Due::Number(Number::LongitudeInterval))),
-    Field(UHL_ACCURACY, 4, Kind::Item(Item::Accuracy(Whose::Uhl))),
-    Field(SECURITY, 3, Kind::Item(Item::Security)),
+    Field(
+        places::UHL_ACCURACY,
+        4,
+        Kind::Item(Item::Accuracy(Whose::Uhl)),
+    ),
+    Field(places::SECURITY, 3, Kind::Item(Item::Security)),
     Field(47, 4, Kind::Due(Due::Number(Number::Columns))),
     Field(51, 4, Kind::Due(Due::Number(Number::Posts))),
     Field(55, 1, Kind::Due(Due::Text(Text::Zero))),
@@ -127,10 +100,10 @@ const DSI: [Field; 24] = [
     Field(80, 3, Kind::Due(Due::Text(Text::Dsi))),
     Field(83, 1, Kind::Due(Due::Letter)),
     Field(139, 5, Kind::Due(Due::Series)),
-    Field(EDITION, 2, Kind::Item(Item::Edition)),
-    Field(VERSION, 1, Kind::Item(Item::Version)),
+    Field(places::EDITION, 2, Kind::Item(Item::Edition)),
+    Field(places::VERSION, 1, Kind::Item(Item::Version)),
     Field(206, 9, Kind::Due(Due::Text(Text::Prf89020b))),
-    Field(DATUM, 3, Kind::Item(Item::Datum)),
+    Field(places::DATUM, 3, Kind::Item(Item::Datum)),
     Field(224, 5, Kind::Due(Due::Text(Text::Wgs84))),
     Field(265, 9, Kind::Due(Due::Angle(Angle::OriginLatitude))),
     Field(274, 10, Kind::Due(Due::Angle(Angle::OriginLongitude))),
@@ -147,28 +120,28 @@ const DSI: [Field; 24] = [
     Field(357, 4, Kind::Due(Due::Number(Number::LongitudeInterval))),
     Field(361, 4, Kind::Due(Due::Number(Number::Posts))),
     Field(365, 4, Kind::Due(Due::Number(Number::Columns))),
-    Field(PARTIAL, 2, Kind::Item(Item::Partial)),
+    Field(places::PARTIAL, 2, Kind::Item(Item::Partial)),
 ];
 
 const ACC: [Field; 6] = [
     Field(728, 3, Kind::Due(Due::Text(Text::Acc))),
     Field(
-        ABSOLUTE_HORIZONTAL,
+        places::ABSOLUTE_HORIZONTAL,
         4,
         Kind::Item(Item::Accuracy(Whose::AbsoluteHorizontal)),
     ),
     Field(
-        ABSOLUTE_VERTICAL,
+        places::ABSOLUTE_VERTICAL,
         4,
         Kind::Item(Item::Accuracy(Whose::AbsoluteVertical)),
     ),
     Field(
-        RELATIVE_HORIZONTAL,
+        places::RELATIVE_HORIZONTAL,
         4,
         Kind::Item(Item::Accuracy(Whose::RelativeHorizontal)),
     ),
     Field(
-        RELATIVE_VERTICAL,
+        places::RELATIVE_VERTICAL,
         4,
         Kind::Item(Item::Accuracy(Whose::RelativeVertical)),
     ),

@@ -75,9 +75,9 @@ fn basis_in(s: &[u8]) -> Basis
     requires { ⌜ LatitudeInRange (now s) ⌝ }
     ensures { λ r. ⌜ r ≡ basisIn (now (s .entry)) ⌝ }
 {
-    let latitude = origin(NORTHWARD, s, fields::LATITUDE);
-    let longitude = origin(EASTWARD, s, fields::LONGITUDE);
-    let letter = s[fields::SECURITY];
+    let latitude = origin(NORTHWARD, s, fields::places::LATITUDE);
+    let longitude = origin(EASTWARD, s, fields::places::LONGITUDE);
+    let letter = s[fields::places::SECURITY];
     let grid = layout::grid_of(level_at(s), near_edge(latitude));
     Basis {
         grid,
@@ -108,7 +108,7 @@ pub fn judge(s: &[u8]) -> Judged
         grid,
         latitude: basis.latitude,
         longitude: basis.longitude,
-        partial: decimal(s, fields::PARTIAL, 2),
+        partial: decimal(s, fields::places::PARTIAL, 2),
     })
 }
 

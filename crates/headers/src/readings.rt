@@ -37,10 +37,10 @@ pub fn level_at(s: &[u8]) -> usize
     requires { ⌜ headerBytes ≤ length (now s) ⌝ }
     ensures { λ r. ⌜ r ≡ levelAt (now (s .entry)) ⌝ }
 {
-    if stands(s, fields::LEVEL, &due::texts::LEVEL0) {
+    if stands(s, fields::places::LEVEL, &due::texts::LEVEL0) {
         return 0;
     }
-    if stands(s, fields::LEVEL, &due::texts::LEVEL1) {
+    if stands(s, fields::places::LEVEL, &due::texts::LEVEL1) {
         return 1;
     }
     2
