@@ -6,6 +6,7 @@ use mathlib.Core.Path.{_≡_, _∙_}
 use mathlib.Core.List.{List}
 use lib.ListN.{length, take, drop, length-drop}
 use lib.Seq.{length-take-le}
+use Rattle.layout.specs.Levels.{columnBytes}
 use Rattle.layout.specs.declared.Grid.{Grid}
 use Rattle.layout.specs.Ranges.{Ranged}
 use Rattle.cells.specs.Cell.{startOf, columnAt}
@@ -25,7 +26,7 @@ part-is s g k base e = rw (add-sub-cancel-left, e)
 
 module _ (s : List ℕ) (g : Grid) (k : ℕ) (in-range : Ranged g) where
   -- a column that is there whole has its length
-  pub column-long : startOf g k + g .bytes .column ≤ length s → length (columnAt s g k) ≡ 12 + 2 * g .posts
+  pub column-long : startOf g k + g .bytes .column ≤ length s → length (columnAt s g k) ≡ columnBytes (g .posts)
   column-long whole = length-take-le (g .bytes .column) (drop (startOf g k) s) (rw length-drop (omega arith)) ∙ in-range .column
 
   -- a column of a cell is there whole

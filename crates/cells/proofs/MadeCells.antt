@@ -37,7 +37,7 @@ module _ (f : Frame) (h ws : List ℕ) (headed : Headed f h) (made : Made f h ws
   follows =
       let rest = joined (λ (k : ℕ). columnOfWords k (part (f .grid .posts) ws k)) (f .grid .columns) in
       let long = made .front in
-      let alike : take 3428 (h ++ rest) ≡ take 3428 h = take-at h rest 3428 long ∙ sym (take-all 3428 h (omega arith)) in
+      let alike : take headerBytes (h ++ rest) ≡ take headerBytes h = take-at h rest headerBytes long ∙ sym (take-all headerBytes h (omega arith)) in
       good-follows (h ++ rest) (headed .facts) (same-headers (h ++ rest) h (rw length-append (omega arith)) (omega arith) alike ∙ headed .good)
 
   pub made-frame : frameIn (cellOfWords h (f .grid) ws) ≡ f
@@ -57,11 +57,11 @@ module _ (s : List ℕ) (cell : Cell s) where
   -- an accepted cell is made of its headers and its words
   pub cell-headed : Headed (frameIn s) (take headerBytes s)
   cell-headed =
-      let enough : 3428 ≤ length s = cell .headers .0 in
-      let long : length (take 3428 s) ≡ 3428 = length-take-le 3428 s enough in
+      let enough : headerBytes ≤ length s = cell .headers .0 in
+      let long : length (take headerBytes s) ≡ headerBytes = length-take-le headerBytes s enough in
       record {
         facts = factsIn s;
-        good = same-headers (take 3428 s) s (omega arith) enough (take-take 3428 3428 s (omega arith)) ∙ follows-good s (cell .headers);
+        good = same-headers (take headerBytes s) s (omega arith) enough (take-take headerBytes headerBytes s (omega arith)) ∙ follows-good s (cell .headers);
         frame = λ i. frameIn s;
       }
 

@@ -1,5 +1,5 @@
 -- Columns and heights, through the words: what was written is good and says its heights, and allowed words are the writer's.
-use Prim.Native.Nat.{ℕ, _+_, _*_, _<_, _≤_}
+use Prim.Native.Nat.{ℕ, _<_, _≤_}
 use native.Mathlib.Omega.{arith}
 use mathlib.Core.Path.{_≡_, ap, _∙_}
 use mathlib.Core.Bool.{Bool, true}
@@ -9,6 +9,7 @@ use lib.ListN.{length, getD, length-map, List·getD-map}
 use lib.Seq.{ext-getD}
 use Rattle.octets.proofs.ListLaws.{mapped}
 use Rattle.octets.proofs.JoinedLaws.{length-listed, getD-listed}
+use Rattle.layout.specs.Levels.{columnBytes}
 use Rattle.posts.specs.Heights.{wordOf, saidBy, heightAllowed}
 use Rattle.posts.proofs.RoundTrip.{word-allowed, word-back, height-back, form-allowed}
 use Rattle.columns.specs.Column.{wordsOf, columnOf, wordIn, wordsIn, heightsIn, GoodColumn, Allowed}
@@ -51,7 +52,7 @@ said-held voids ws allowed i h =
     rw (mapped saidBy ws i 0 (pos 0) u) (form-allowed voids (getD ws i 0) (allowed i u))
 
 -- a column of heights
-pub length-written : (k : ℕ) (zs : List ℤ) → length (columnOf k zs) ≡ 12 + 2 * length zs
+pub length-written : (k : ℕ) (zs : List ℤ) → length (columnOf k zs) ≡ columnBytes (length zs)
 length-written k zs = length-column k (wordsOf zs) ∙ omega (arith, length-map zs wordOf)
 
 module _ (k posts : ℕ) (voids : Bool) (zs : List ℤ) (long : length zs ≡ posts) (held : Held voids zs) where

@@ -1,5 +1,5 @@
 -- Columns and words: a column with its preamble and checksum right is the column of its words, and gives back the words that it was made of.
-use Prim.Native.Nat.{ℕ, zero, suc, _+_, _*_, _<_, _≤_}
+use Prim.Native.Nat.{ℕ, zero, suc, _*_, _<_, _≤_}
 use native.Mathlib.Omega.{arith}
 use mathlib.Core.Path.{_≡_, refl, sym, ap, _∙_}
 use mathlib.Core.Bool.{Bool}
@@ -15,6 +15,7 @@ use Rattle.octets.proofs.NumberLaws.{length-bytes, bytes-back}
 use Rattle.octets.proofs.WordLaws.{length-words, words-bytes, Fit, words-there, word-there}
 use Rattle.octets.proofs.SumLaws.{sum-bound}
 use Rattle.octets.proofs.FrontLaws.{Begins, begins-less, begins-read, begins-more, byte-below, bytes-join}
+use Rattle.layout.specs.Levels.{columnBytes}
 use Rattle.posts.proofs.RoundTrip.{allowed-fits}
 use Rattle.columns.specs.Column.{preamble, sealed, columnOfWords, sumAt, wordIn, wordsIn, Sealed, GoodColumn, Allowed}
 
@@ -44,7 +45,7 @@ module _ (k : ℕ) (ws : List ℕ) where
   body-bytes-below : Bytes (preamble k ++ bytesOfWords ws)
   body-bytes-below = bytes-join (preamble k) (bytesOfWords ws) (preamble-bytes k) (words-bytes ws)
 
-  pub length-column : length (columnOfWords k ws) ≡ 12 + 2 * length ws
+  pub length-column : length (columnOfWords k ws) ≡ columnBytes (length ws)
   unfolding columnOfWords sealed
   length-column = length-append body (bytesOf 4 (sumOf body)) ∙ omega (arith, length-body, length-bytes 4 (sumOf body))
 
@@ -52,7 +53,7 @@ module _ (k : ℕ) (ws : List ℕ) where
   unfolding columnOfWords sealed
   column-bytes = bytes-join body (bytesOf 4 (sumOf body)) body-bytes-below (byte-below 4 (sumOf body))
 
-module _ (s : List ℕ) (k posts : ℕ) (bytes : Bytes s) (long : length s ≡ 12 + 2 * posts) (right : Sealed s k posts) where
+module _ (s : List ℕ) (k posts : ℕ) (bytes : Bytes s) (long : length s ≡ columnBytes posts) (right : Sealed s k posts) where
   preamble-there : Begins s (preamble k)
   unfolding preamble
   preamble-there =

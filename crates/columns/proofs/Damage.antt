@@ -14,6 +14,7 @@ use Rattle.octets.specs.Sums.{sumOf}
 use Rattle.octets.proofs.ChoiceLaws.{by-order}
 use Rattle.octets.proofs.NumberLaws.{number-same, number-one}
 use Rattle.octets.proofs.SumLaws.{sum-set}
+use Rattle.layout.specs.Levels.{columnBytes}
 use Rattle.posts.specs.Words.{wordAllowed}
 use Rattle.answers.specs.declared.Refusal.the-variants.{Preamble, Checksum, Word}
 use Rattle.columns.specs.Column.{wordAt, sumAt, wordIn, GoodColumn}
@@ -46,10 +47,10 @@ words-in s voids base hi i (suc n) h =
     pick-in base hi (wordAllowed voids (wordIn s i)) _ (Refused (Word (base + wordAt i)))
     (words-in s voids base hi (i + 1) n (omega arith)) (λ bad. omega arith)
 
-pub judged-in : (s : List ℕ) (k posts : ℕ) (voids : Bool) (base : ℕ) → PlacedIn base (base + (12 + 2 * posts)) (judgedColumn s k posts voids base)
+pub judged-in : (s : List ℕ) (k posts : ℕ) (voids : Bool) (base : ℕ) → PlacedIn base (base + columnBytes posts) (judgedColumn s k posts voids base)
 unfolding judgedColumn headOf
 judged-in s k posts voids base =
-    let hi = base + (12 + 2 * posts) in
+    let hi = base + columnBytes posts in
     then-in base hi (headOf s k posts base) (wordsFrom s voids base 0 posts)
     (pick-in base hi (eqb (getD s 0 0) 170) _ (Refused (Preamble base))
     (pick-in base hi (eqb (numberAt s 1 3) k) _ (Refused (Preamble (base + 1)))
@@ -94,7 +95,7 @@ module _ (s : List ℕ) (j v n : ℕ) (size : n + 4 ≡ length s) (inside : j < 
 
 -- D2: one byte replaced
 pub one-byte : (s : List ℕ) (k posts : ℕ) (voids : Bool) (base : ℕ) → GoodColumn s k posts voids
-    → (j v : ℕ) → j < length s → (v ≡ getD s j 0 → ⊥) → RefusedIn base (base + (12 + 2 * posts)) (judgedColumn (set s j v) k posts voids base)
+    → (j v : ℕ) → j < length s → (v ≡ getD s j 0 → ⊥) → RefusedIn base (base + columnBytes posts) (judgedColumn (set s j v) k posts voids base)
 one-byte s k posts voids base good j v inside other =
     judged-in (set s j v) k posts voids base
     (λ bad.

@@ -1,5 +1,5 @@
 -- A column as it is put: its words one by one, and the pastes that make it.
-use Prim.Native.Nat.{ℕ, suc, _+_, _*_, _<_, _≤_}
+use Prim.Native.Nat.{ℕ, suc, _+_, _<_, _≤_}
 use native.Mathlib.Omega.{arith}
 use native.Mathlib.Numerals.{add-one}
 use mathlib.Core.Path.{_≡_, sym, ap, _∙_}
@@ -14,16 +14,17 @@ use Rattle.octets.proofs.JoinedLaws.{length-listed, listed-last}
 use Rattle.octets.proofs.WordLaws.{length-words, words-append}
 use Rattle.octets.proofs.NumberLaws.{length-bytes}
 use Rattle.octets.proofs.PasteLaws.{store, paste-paste, paste-front, paste-all}
-use Rattle.columns.specs.Column.{preamble, sealed, columnOfWords}
+use Rattle.layout.specs.Levels.{columnBytes}
+use Rattle.columns.specs.Column.{preamble, sealed, columnOfWords, wordAt, sumAt}
 use Rattle.columns.proofs.ColumnWords.{length-preamble, length-body}
 
 -- a turn of the loop that puts the words
-pub words-step : (out : List ℕ) (word : ℕ → ℕ) (i n : ℕ) → i < n → 8 + 2 * n ≤ length out
-    → pasted (pasted out 8 (bytesOfWords (listed word i))) (8 + 2 * i) (bytesOf 2 (word i)) ≡ pasted out 8 (bytesOfWords (listed word (i + 1)))
+pub words-step : (out : List ℕ) (word : ℕ → ℕ) (i n : ℕ) → i < n → sumAt n ≤ length out
+    → pasted (pasted out 8 (bytesOfWords (listed word i))) (wordAt i) (bytesOf 2 (word i)) ≡ pasted out 8 (bytesOfWords (listed word (i + 1)))
 unfolding bytesOfWords
 words-step out word i n h room =
     let ws = listed word i in
-    let at : 8 + length (bytesOfWords ws) ≡ 8 + 2 * i = omega (arith, length-words ws, length-listed word i) in
+    let at : 8 + length (bytesOfWords ws) ≡ wordAt i = omega (arith, length-words ws, length-listed word i) in
     let more : bytesOfWords (listed word (suc i)) ≡ bytesOfWords ws ++ bytesOf 2 (word i) =
     ap bytesOfWords (listed-last word i) ∙ words-append ws (word i ∷ []) ∙ ap (λ (l : List ℕ). bytesOfWords ws ++ l) (append-nil (bytesOf 2 (word i)))
     in
@@ -47,11 +48,11 @@ preamble-put out k h =
     ∙ paste-paste out 0 c (bytesOf 2 0) (omega (arith, lc))
 
 -- preamble, words and checksum, put one after the other over bytes of the column's length
-module _ (out : List ℕ) (k : ℕ) (ws : List ℕ) (n : ℕ) (counted : length ws ≡ n) (long : length out ≡ 12 + 2 * n) where
+module _ (out : List ℕ) (k : ℕ) (ws : List ℕ) (n : ℕ) (counted : length ws ≡ n) (long : length out ≡ columnBytes n) where
   abbrev body : List ℕ
   body = preamble k ++ bytesOfWords ws
 
-  length-here : length body ≡ 8 + 2 * n
+  length-here : length body ≡ sumAt n
   length-here = length-body k ws ∙ omega arith
 
   body-put : pasted (pasted out 0 (preamble k)) 8 (bytesOfWords ws) ≡ pasted out 0 body
@@ -60,16 +61,16 @@ module _ (out : List ℕ) (k : ℕ) (ws : List ℕ) (n : ℕ) (counted : length 
       ap (λ (m : ℕ). pasted (pasted out 0 (preamble k)) m (bytesOfWords ws)) (sym e) ∙ paste-paste out 0 (preamble k) (bytesOfWords ws) (omega arith)
 
   -- the bytes that are summed
-  summed : take (8 + 2 * n) (pasted (pasted out 0 (preamble k)) 8 (bytesOfWords ws)) ≡ body
-  summed = ap (take (8 + 2 * n)) (body-put ∙ paste-front out body) ∙ take-at body _ _ length-here
+  summed : take (sumAt n) (pasted (pasted out 0 (preamble k)) 8 (bytesOfWords ws)) ≡ body
+  summed = ap (take (sumAt n)) (body-put ∙ paste-front out body) ∙ take-at body _ _ length-here
 
-  pub column-put : (v : ℕ) → v ≡ sumOf (take (8 + 2 * n) (pasted (pasted out 0 (preamble k)) 8 (bytesOfWords ws)))
-      → pasted (pasted (pasted out 0 (preamble k)) 8 (bytesOfWords ws)) (8 + 2 * n) (bytesOf 4 v) ≡ columnOfWords k ws
+  pub column-put : (v : ℕ) → v ≡ sumOf (take (sumAt n) (pasted (pasted out 0 (preamble k)) 8 (bytesOfWords ws)))
+      → pasted (pasted (pasted out 0 (preamble k)) 8 (bytesOfWords ws)) (sumAt n) (bytesOf 4 v) ≡ columnOfWords k ws
   unfolding columnOfWords sealed
   column-put v e =
-      let m : 0 + length body ≡ 8 + 2 * n = omega (arith, length-here) in
+      let m : 0 + length body ≡ sumAt n = omega (arith, length-here) in
       let all : length (body ++ bytesOf 4 v) ≡ length out = length-append body (bytesOf 4 v) ∙ omega (arith, length-here, length-bytes 4 v) in
-      ap (λ (l : List ℕ). pasted l (8 + 2 * n) (bytesOf 4 v)) body-put
+      ap (λ (l : List ℕ). pasted l (sumAt n) (bytesOf 4 v)) body-put
       ∙ ap (λ (x : ℕ). pasted (pasted out 0 body) x (bytesOf 4 v)) (sym m)
       ∙ paste-paste out 0 body (bytesOf 4 v) (omega (arith, length-here))
       ∙ paste-all out (body ++ bytesOf 4 v) all

@@ -1,15 +1,17 @@
 -- What functions of this crate ask of their callers.
-use Prim.Native.Nat.{ℕ, _+_, _*_, _^_, _<_, _≤_}
+use Prim.Native.Nat.{ℕ, _+_, _^_, _<_, _≤_}
 use mathlib.Core.Path.{_≡_}
 use mathlib.Core.List.{List}
 use lib.ListN.{length}
+use Rattle.layout.specs.Levels.{columnBytes}
 use Rattle.sources.specs.Given.{Given, countOf}
+use Rattle.columns.specs.Column.{sumAt}
 
 -- a column that is there whole, so short that 32 bits hold its sum, and an end of it that 64 bits hold
 pub record Whole (column : List ℕ) (posts base : ℕ) : Type 0 where
-  pub long : length column ≡ 12 + 2 * posts
+  pub long : length column ≡ columnBytes posts
   pub few : posts ≤ 3601
-  pub end : base + (12 + 2 * posts) < 2 ^ 64
+  pub end : base + columnBytes posts < 2 ^ 64
 
 -- so many heights from height `first` on, and an end of theirs that 64 bits hold
 pub record Reaches (g : Given) (first posts : ℕ) : Type 0 where
@@ -19,7 +21,7 @@ pub record Reaches (g : Given) (first posts : ℕ) : Type 0 where
 -- such heights, and room for their words after a preamble
 pub record WordsFit (out : List ℕ) (g : Given) (first posts : ℕ) : Type 0 where
   pub heights : Reaches g first posts
-  pub room : 8 + 2 * posts ≤ length out
+  pub room : sumAt posts ≤ length out
 
 -- room for a preamble, and a number that it can hold
 pub record PreambleFits (out : List ℕ) (number : ℕ) : Type 0 where
@@ -29,6 +31,6 @@ pub record PreambleFits (out : List ℕ) (number : ℕ) : Type 0 where
 -- such heights, bytes of their column's length, and a number that its preamble can hold
 pub record ColumnFits (out : List ℕ) (number : ℕ) (g : Given) (first posts : ℕ) : Type 0 where
   pub heights : Reaches g first posts
-  pub long : length out ≡ 12 + 2 * posts
+  pub long : length out ≡ columnBytes posts
   pub few : posts ≤ 3601
   pub small : number < 65536

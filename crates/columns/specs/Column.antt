@@ -8,6 +8,7 @@ use lib.ListN.{length, getD, take}
 use Rattle.octets.specs.Numbers.{numberAt, bytesOf, bytesOfWords}
 use Rattle.octets.specs.Sums.{sumOf}
 use Rattle.octets.specs.Parts.{listed}
+use Rattle.layout.specs.Levels.{columnBytes}
 use Rattle.posts.specs.Words.{wordAllowed}
 use Rattle.posts.specs.Heights.{wordOf, saidBy}
 
@@ -66,7 +67,7 @@ pub record Sealed (s : List ℕ) (k posts : ℕ) : Type 0 where
 
 -- C1 to C4, P4: the bytes are a good column k
 pub record GoodColumn (s : List ℕ) (k posts : ℕ) (voids : Bool) : Type 0 where
-  pub long : length s ≡ 12 + 2 * posts
+  pub long : length s ≡ columnBytes posts
   pub right : Sealed s k posts
   pub words : (i : ℕ) → i < posts → wordAllowed voids (wordIn s i) ≡ true
 

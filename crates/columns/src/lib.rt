@@ -3,8 +3,11 @@ ghost use mathlib.Core.Path.{_≡_};
 ghost use Rattle.columns.specs.Asked.{Whole};
 ghost use Rattle.columns.specs.Judged.{headOf, judgedColumn};
 
+pub mod places;
 pub mod write;
 
+use crate::places::sum_at;
+use crate::places::word_at;
 use answers::Refusal;
 use octets::numbers::be16;
 use octets::numbers::be24;
@@ -34,7 +37,7 @@ pub fn judge_head(column: &[u8], number: usize, posts: usize, base: usize) -> Ju
     if be16(column, 6) != 0 {
         return Judged::Refused(Refusal::Preamble(base + 6));
     }
-    let end = 8 + 2 * posts;
+    let end = sum_at(posts);
     if be32(column, end) != sum(&column[..end]) {
         return Judged::Refused(Refusal::Checksum(base + end));
     }
@@ -52,7 +55,7 @@ pub fn judge(column: &[u8], number: usize, posts: usize, voids: bool, base: usiz
     }
     let mut i = 0;
     while i < posts {
-        let at = 8 + 2 * i;
+        let at = word_at(i);
         if !is_allowed(be16(column, at), voids) {
             return Judged::Refused(Refusal::Word(base + at));
         }

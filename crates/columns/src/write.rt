@@ -5,6 +5,8 @@ ghost use Rattle.octets.specs.Pastes.{pasted};
 ghost use Rattle.sources.specs.Given.{given, wordsGiven};
 ghost use Rattle.columns.specs.Asked.{WordsFit, PreambleFits, ColumnFits};
 ghost use Rattle.columns.specs.Column.{preamble, columnOfWords};
+use crate::places::sum_at;
+use crate::places::word_at;
 use octets::numbers::put16;
 use octets::numbers::put24;
 use octets::numbers::put32;
@@ -29,7 +31,7 @@ fn put_words(
     while i < posts {
         let height = height_at(source, numbers, bytes, first + i);
         let word = word_of(height as i64);
-        put16(out, 8 + 2 * i, word);
+        put16(out, word_at(i), word);
         i += 1;
     }
 }
@@ -60,7 +62,7 @@ pub fn put_column(
 {
     put_preamble(out, number);
     put_words(out, source, numbers, bytes, first, posts);
-    let end = 8 + 2 * posts;
+    let end = sum_at(posts);
     let total = sum(&out[..end]);
     put32(out, end, total);
 }

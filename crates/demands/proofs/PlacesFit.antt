@@ -1,5 +1,5 @@
 -- What every call tells fits the bits that a packed answer has for it (rule B1), so that nothing is cut.
-use Prim.Native.Nat.{ℕ, zero, suc, _+_, _*_, _<_, _≤_}
+use Prim.Native.Nat.{ℕ, zero, suc, _+_, _<_, _≤_}
 use native.Mathlib.Omega.{arith}
 use mathlib.Core.Path.{_≡_, refl, sym, subst, _∙_}
 use mathlib.Core.Bool.{Bool, true}
@@ -96,11 +96,11 @@ pub headers-fit : (s : List ℕ) (r : Refusal) → judged s ≡ headers.Refused 
 headers-fit s r e = numbered-fits r (headers-by s (judged s) (answered s) r e)
 
 -- a refusal of a column has its place in it
-column-fits : (s : List ℕ) (k posts : ℕ) (voids : Bool) (base : ℕ) → base + (12 + 2 * posts) ≤ most → (r : Refusal)
+column-fits : (s : List ℕ) (k posts : ℕ) (voids : Bool) (base : ℕ) → base + columnBytes posts ≤ most → (r : Refusal)
     → judgedColumn s k posts voids base ≡ columns.Refused r → Fits (numbered r)
 column-fits s k posts voids base small r e =
     let inside = judged-in s k posts voids base (λ q. let z : _≡_ {A = ℕ} 0 1 = cc in absurd (omega arith)) in
-    let there : RefusedIn base (base + (12 + 2 * posts)) (columns.Refused r) = subst (RefusedIn base (base + (12 + 2 * posts))) e inside in
+    let there : RefusedIn base (base + columnBytes posts) (columns.Refused r) = subst (RefusedIn base (base + columnBytes posts)) e inside in
     numbered-fits r (omega (arith, there .1))
 
 -- no column of a grid ends past the longest cell

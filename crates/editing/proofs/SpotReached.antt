@@ -1,5 +1,5 @@
 -- What a reached post is: its column there whole and good; and that column as it is lent, and as it comes back.
-use Prim.Native.Nat.{ℕ, _+_, _*_, _-_, _≤_, _<_}
+use Prim.Native.Nat.{ℕ, _+_, _-_, _≤_, _<_}
 use native.Mathlib.Omega.{arith}
 use mathlib.Core.Path.{_≡_, ap, subst, _∙_}
 use mathlib.Core.List.{List}
@@ -66,12 +66,12 @@ module _ (s : List ℕ) (c p : ℕ) where
   spot-reached spot e = by-row (reached s c p) (row s c p) spot e
 
 -- the column, lent as the part from its start to its end
-module _ (s : List ℕ) (c p : ℕ) (spot : Spot) (at : SpotOf s c p spot) where
+module _ (s : List ℕ) (c p : ℕ) (spot : Spot) (at : SpotOf s c p spot) (size : ℕ) (sized : size ≡ columnBytes (spot .posts)) where
   abbrev pub lent : List ℕ
-  lent = take (spot .start + 12 + 2 * spot .posts - spot .start) (drop (spot .start) s)
+  lent = take (spot .start + size - spot .start) (drop (spot .start) s)
 
   lent-is : lent ≡ partAt s spot
-  lent-is = let n : spot .start + 12 + 2 * spot .posts - spot .start ≡ columnBytes (spot .posts) = omega arith in rw n
+  lent-is = let n : spot .start + size - spot .start ≡ columnBytes (spot .posts) = omega (arith, sized) in rw n
 
   -- all that storing a post in it asks
   pub can-store : Storable lent (spot .posts) p
@@ -79,10 +79,10 @@ module _ (s : List ℕ) (c p : ℕ) (spot : Spot) (at : SpotOf s c p spot) where
 
   -- and what the cell is once it came back
   pub stored-back : (z : ℤ) (back : List ℕ) → back ≡ stored lent (spot .posts) p (wordOf z)
-      → putMid (spot .start) (spot .start + 12 + 2 * spot .posts - spot .start) s back ≡ storedIn s spot p z
+      → putMid (spot .start) (spot .start + size - spot .start) s back ≡ storedIn s spot p z
   unfolding storedIn
   stored-back z back e =
       let same : back ≡ stored (partAt s spot) (spot .posts) p (wordOf z) = e ∙ ap (λ (l : List ℕ). stored l (spot .posts) p (wordOf z)) lent-is in
       let long = length-stored (partAt s spot) (spot .posts) p (wordOf z) (at .column .long) (at .inside) in
-      part-back s (spot .start) (spot .start + 12 + 2 * spot .posts - spot .start) back (ap length same ∙ long ∙ at .column .long ∙ omega arith)
+      part-back s (spot .start) (spot .start + size - spot .start) back (ap length same ∙ long ∙ at .column .long ∙ omega (arith, sized))
       ∙ ap (pasted s (spot .start)) same

@@ -4,6 +4,7 @@ ghost use Rattle.answers.specs.Told as told;
 ghost use Rattle.editing.specs.Edit.{editTold, edited};
 use answers::Outcome;
 use answers::Refusal;
+use layout::levels::column_bytes;
 use posts::heights::is_allowed;
 use posts::heights::word_of;
 use reaching::reach::Reached;
@@ -24,7 +25,7 @@ pub fn edit(cell: &mut [u8], column: usize, post: usize, height: i64) -> Outcome
             let word = word_of(height);
             let start = spot.start;
             let posts = spot.posts;
-            let end = start + 12 + 2 * posts;
+            let end = start + column_bytes(posts);
             store(&mut cell[start..end], posts, post, word);
             Outcome::Done
         }

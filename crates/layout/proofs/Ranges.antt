@@ -11,9 +11,9 @@ use borrow.Author.Tests.{lt-ltb, ltb-true}
 use mir.Syntax.{w64}
 use mir.Val.{Fits}
 use Rattle.octets.specs.Choice.{pick}
-use Rattle.layout.specs.Levels.{latitudeInterval, postsOf}
+use Rattle.layout.specs.Levels.{latitudeInterval, postsOf, columnBytes}
 use Rattle.layout.specs.Zones.{factorAmong, factorOf}
-use Rattle.layout.specs.Grid.{longitudeInterval, columnsOf, cellBytes, gridOf, laid}
+use Rattle.layout.specs.Grid.{longitudeInterval, columnsOf, headerBytes, cellBytes, gridOf, laid}
 use Rattle.octets.specs.Tests.{every, allBelow}
 use Rattle.layout.specs.Ranges.{Ranged}
 use Rattle.layout.specs.declared.Grid.{Grid}
@@ -29,8 +29,8 @@ tests g =
     ∷ leb 10 (g .interval .longitude) ∷ leb (g .interval .longitude) 1800
     ∷ leb 21 (g .columns) ∷ leb (g .columns) 3601
     ∷ leb 121 (g .posts) ∷ leb (g .posts) 3601
-    ∷ eqb (g .bytes .column) (12 + 2 * g .posts)
-    ∷ eqb (g .bytes .cell) (3428 + g .columns * g .bytes .column)
+    ∷ eqb (g .bytes .column) (columnBytes (g .posts))
+    ∷ eqb (g .bytes .cell) (headerBytes + g .columns * g .bytes .column)
     ∷ leb (g .bytes .cell) 25981042
     ∷ eqb ((g .posts - 1) * g .interval .latitude) 36000
     ∷ eqb ((g .columns - 1) * g .interval .longitude) 36000
@@ -51,8 +51,8 @@ by-tests g t =
       columns-high = leb→le (g .columns) 3601 (held 8);
       posts-low = leb→le 121 (g .posts) (held 9);
       posts-high = leb→le (g .posts) 3601 (held 10);
-      column = eqb→eq (g .bytes .column) (12 + 2 * g .posts) (held 11);
-      cell = eqb→eq (g .bytes .cell) (3428 + g .columns * g .bytes .column) (held 12);
+      column = eqb→eq (g .bytes .column) (columnBytes (g .posts)) (held 11);
+      cell = eqb→eq (g .bytes .cell) (headerBytes + g .columns * g .bytes .column) (held 12);
       cell-high = leb→le (g .bytes .cell) 25981042 (held 13);
       latitude-spans = eqb→eq ((g .posts - 1) * g .interval .latitude) 36000 (held 14);
       longitude-spans = eqb→eq ((g .columns - 1) * g .interval .longitude) 36000 (held 15);
@@ -80,8 +80,8 @@ gridBy level factor latitude = record {
   columns = 36000 / (latitude * factor) + 1;
   posts = 36000 / latitude + 1;
   bytes = record {
-    column = 12 + 2 * (36000 / latitude + 1);
-    cell = 3428 + (36000 / (latitude * factor) + 1) * (12 + 2 * (36000 / latitude + 1));
+    column = columnBytes (36000 / latitude + 1);
+    cell = headerBytes + (36000 / (latitude * factor) + 1) * columnBytes (36000 / latitude + 1);
   };
 }
 
@@ -97,7 +97,7 @@ most-bytes columns column h k = mul-le-mul h k
 pub columns-fit : {columns column : ℕ} → columns ≤ 3601 → column ≤ 7214 → Fits w64 (columns * column)
 columns-fit {columns} {column} h k = omega (arith, most-bytes columns column h k)
 
-pub cell-fits : {columns column : ℕ} → columns ≤ 3601 → column ≤ 7214 → Fits w64 (3428 + columns * column)
+pub cell-fits : {columns column : ℕ} → columns ≤ 3601 → column ≤ 7214 → Fits w64 (headerBytes + columns * column)
 cell-fits {columns} {column} h k = omega (arith, most-bytes columns column h k)
 
 pub laid-in : (level edge : ℕ) → level < 3 → edge < 90 → laid level edge ≡ Out (gridOf level edge)

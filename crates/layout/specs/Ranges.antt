@@ -1,6 +1,8 @@
 -- What the grid of good headers is within: functions ask it of their callers, so that no sum or product of theirs can wrap.
 use Prim.Native.Nat.{ℕ, _+_, _-_, _*_, _<_, _≤_}
 use mathlib.Core.Path.{_≡_}
+use Rattle.layout.specs.Grid.{headerBytes}
+use Rattle.layout.specs.Levels.{columnBytes}
 use Rattle.layout.specs.declared.Grid.{Grid}
 
 pub record Ranged (g : Grid) : Type 0 where
@@ -15,8 +17,8 @@ pub record Ranged (g : Grid) : Type 0 where
   pub columns-high : g .columns ≤ 3601
   pub posts-low : 121 ≤ g .posts
   pub posts-high : g .posts ≤ 3601
-  pub column : g .bytes .column ≡ 12 + 2 * g .posts
-  pub cell : g .bytes .cell ≡ 3428 + g .columns * g .bytes .column
+  pub column : g .bytes .column ≡ columnBytes (g .posts)
+  pub cell : g .bytes .cell ≡ headerBytes + g .columns * g .bytes .column
   pub cell-high : g .bytes .cell ≤ 25981042
   pub latitude-spans : (g .posts - 1) * g .interval .latitude ≡ 36000
   pub longitude-spans : (g .columns - 1) * g .interval .longitude ≡ 36000

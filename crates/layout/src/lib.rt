@@ -3,7 +3,7 @@ ghost use mathlib.Core.Path.{_≡_};
 ghost use Rattle.layout.specs.Grid.{gridOf, laid};
 ghost use Rattle.layout.specs.Asked.{HasGrid};
 
-mod levels;
+pub mod levels;
 pub mod zones;
 
 // Tenths of an arc-second in a degree.
@@ -55,7 +55,7 @@ pub fn grid_of(level: usize, edge: usize) -> Grid
     let longitude = latitude * factor;
     let columns = DEGREE / longitude + 1;
     let posts = DEGREE / latitude + 1;
-    let column = 12 + 2 * posts;
+    let column = levels::column_bytes(posts);
     let cell = HEADER_BYTES + columns * column;
     Grid {
         level,

@@ -9,6 +9,7 @@ use Rattle.octets.proofs.ChoiceLaws.{by-order}
 use Rattle.answers.specs.Told.{told, post}
 use Rattle.answers.specs.declared.Refusal.the-variants.{OffGrid}
 use Rattle.answers.specs.declared.Reading.the-variants as reading
+use Rattle.layout.specs.Grid.{headerBytes}
 use Rattle.layout.specs.declared.Frame.{Frame}
 use Rattle.headers.specs.Judged.{judged, frameIn}
 use Rattle.headers.specs.declared.Judged.{Judged}
@@ -91,7 +92,7 @@ module _ (s t : List ℕ) (c p : ℕ) where
   by-judged (Good f) j hs ht e = rw (good-follows s f j .1) (alike-under (frameIn s) hs ht e)
 
   -- L2: bytes that agree in the headers and in one column, both holding it whole, give one answer for each of its posts
-  pub same-post : 3428 ≤ length s → 3428 ≤ length t → take 3428 s ≡ take 3428 t → endIn s c ≤ length s → endIn s c ≤ length t
+  pub same-post : headerBytes ≤ length s → headerBytes ≤ length t → take headerBytes s ≡ take headerBytes t → endIn s c ≤ length s → endIn s c ≤ length t
       → columnAt s (frameIn s .grid) c ≡ columnAt t (frameIn s .grid) c → lookedUp s c p ≡ lookedUp t c p
   unfolding lookedUp reached
   same-post ls lt same hs ht e =

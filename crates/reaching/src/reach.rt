@@ -4,6 +4,7 @@ ghost use Rattle.layout.specs.Ranges.{Ranged};
 ghost use Rattle.reaching.specs.Reach as by;
 use answers::Refusal;
 use columns::Judged;
+use columns::places::word_at;
 use headers::judge::frame_of;
 use layout::Frame;
 use layout::HEADER_BYTES;
@@ -50,7 +51,7 @@ pub fn reach_in(cell: &[u8], frame: Frame, column: usize, post: usize) -> Reache
             start,
             posts,
             voids,
-            word: be16(part, 8 + 2 * post),
+            word: be16(part, word_at(post)),
         }),
         Judged::Refused(refusal) => Reached::Refused(refusal),
     }

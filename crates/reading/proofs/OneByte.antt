@@ -10,6 +10,7 @@ use Rattle.octets.proofs.PartLaws.{byte-part, paste-before}
 use Rattle.octets.proofs.PasteLaws.{store}
 use Rattle.answers.specs.Told.{Told, refused, numberTold, placeTold}
 use Rattle.answers.proofs.Injective.{refusal-told}
+use Rattle.layout.specs.Grid.{headerBytes}
 use Rattle.layout.specs.declared.Frame.{Frame}
 use Rattle.layout.specs.Ranges.{Ranged}
 use Rattle.headers.specs.Judged.{judged, factsIn, frameIn}
@@ -83,9 +84,9 @@ one-byte-refused s cell k j v h low high other =
     let f = frameIn s in
     let start = startOf (f .grid) k in
     let at-j : start + (j - start) ≡ j = omega arith in
-    let enough : 3428 ≤ length s = cell .headers .0 in
+    let enough : headerBytes ≤ length s = cell .headers .0 in
     let same : judged (set s j v) ≡ Good (factsIn s) =
-    same-headers (set s j v) s (rw length-set enough) enough (take-set-le 3428 s j v (omega arith)) ∙ follows-good s (cell .headers)
+    same-headers (set s j v) s (rw length-set enough) enough (take-set-le headerBytes s j v (omega arith)) ∙ follows-good s (cell .headers)
     in
     rw same
     (subst (λ (m : ℕ). RefusedAt start (endOf f k) (columnsFrom (set s m v) f 0 (f .grid .columns))) at-j

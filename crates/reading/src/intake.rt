@@ -7,6 +7,7 @@ use answers::Refusal;
 use answers::Verdict;
 use columns::Judged;
 use columns::judge_head;
+use columns::places::word_at;
 use headers::judge::frame_of;
 use layout::Frame;
 use layout::Grid;
@@ -58,7 +59,7 @@ fn take_columns(cell: &[u8], frame: Frame) -> Verdict
         }
         let mut i = 0;
         while i < posts {
-            let at = 8 + 2 * i;
+            let at = word_at(i);
             if !is_allowed(be16(column, at), voids) {
                 break 'columns Verdict::Refused(Refusal::Word(base + at));
             }

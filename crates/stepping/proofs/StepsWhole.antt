@@ -10,7 +10,7 @@ use Rattle.answers.specs.Told.{told, intake, numbered}
 use Rattle.answers.specs.declared.Verdict.{Verdict}
 use Rattle.answers.specs.declared.Verdict.the-variants as verdict
 use Rattle.answers.proofs.Injective.{told-injective}
-use Rattle.layout.specs.Grid.{gridOf, laid}
+use Rattle.layout.specs.Grid.{headerBytes, gridOf, laid}
 use Rattle.layout.specs.declared.Grid.{Grid}
 use Rattle.layout.specs.declared.Laid.the-variants.{Out}
 use Rattle.layout.proofs.Ranges.{laid-in}
@@ -32,11 +32,11 @@ use Rattle.stepping.specs.declared.steps.Phase.the-variants.{Headers}
 use Rattle.stepping.proofs.StepByStep.{settled, columns-fed}
 
 -- the first piece of a file is judged as the file is
-first-same : (s : List ℕ) → judged (take 3428 s) ≡ judged s
+first-same : (s : List ℕ) → judged (take headerBytes s) ≡ judged s
 first-same s =
-    by-order 3428 (length s)
-    (λ h. same-headers (take 3428 s) s (omega (arith, length-take-le 3428 s h)) h (take-take 3428 3428 s (omega arith)))
-    (λ h. ap judged (take-all 3428 s (omega arith)))
+    by-order headerBytes (length s)
+    (λ h. same-headers (take headerBytes s) s (omega (arith, length-take-le headerBytes s h)) h (take-take headerBytes headerBytes s (omega arith)))
+    (λ h. ap judged (take-all headerBytes s (omega arith)))
 
 -- the grid of good headers is laid out
 good-laid : (s : List ℕ) → Follows s → laid (frameIn s .grid .level) (edgeOf (factsIn s .latitude)) ≡ Out (frameIn s .grid)
@@ -50,13 +50,13 @@ good-laid s h =
 
 -- the pieces of a file under this grid
 abbrev pub Cut : List ℕ → Grid → Verdict → Type 0
-Cut s g w = Fed Headers (take 3428 s) (firstPiece s g 0 (g .columns) ∷ laterPieces s g 0 (g .columns)) w
+Cut s g w = Fed Headers (take headerBytes s) (firstPiece s g 0 (g .columns) ∷ laterPieces s g 0 (g .columns)) w
 
 by-judged : (s : List ℕ) (x : Judged) (w : Verdict) → judged s ≡ x → Cut s (frameIn s .grid) w → told intake w ≡ taken s
 unfolding taken
 by-judged s (Refused r) w e fed =
     let g = frameIn s .grid in
-    settled (fed .0) (numbered r) Headers (take 3428 s) (firstPiece s g 0 (g .columns)) (laterPieces s g 0 (g .columns)) w
+    settled (fed .0) (numbered r) Headers (take headerBytes s) (firstPiece s g 0 (g .columns)) (laterPieces s g 0 (g .columns)) w
     (fed .1 .0 ∙ ap saidOfHeaders (first-same s ∙ e)) (numbered-not-more r) (fed .1 .1)
     ∙ sym (ap (takenBy s) e)
 by-judged s (Good d) w e fed =
@@ -64,7 +64,7 @@ by-judged s (Good d) w e fed =
     let h = good-follows s d e .0 in
     let good = first-same s ∙ follows-good s h in
     let is-more = told-injective intake (fed .0) verdict.More (fed .1 .0 ∙ ap saidOfHeaders good) in
-    let state : after Headers (take 3428 s) (fed .0) ≡ dueAfter (Good (factsIn s)) = ap (after Headers (take 3428 s)) is-more ∙ ap dueAfter good in
+    let state : after Headers (take headerBytes s) (fed .0) ≡ dueAfter (Good (factsIn s)) = ap (after Headers (take headerBytes s)) is-more ∙ ap dueAfter good in
     columns-fed s f (f .grid .level) (edgeOf (factsIn s .latitude)) (good-laid s h) (f .grid .columns) 0 w (omega arith) (omega (arith, h .0))
     (subst (λ (p : Phase). Fed p (firstPiece s (f .grid) 0 (f .grid .columns)) (laterPieces s (f .grid) 0 (f .grid .columns)) w) state (fed .1 .1))
     ∙ sym (taken-framed s h)

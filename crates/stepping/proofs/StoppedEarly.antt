@@ -7,6 +7,7 @@ use lib.ListN.{take}
 use Rattle.answers.specs.Told.{told, intake}
 use Rattle.answers.specs.declared.Verdict.{Verdict}
 use Rattle.answers.specs.declared.Verdict.the-variants as verdict
+use Rattle.layout.specs.Grid.{headerBytes}
 use Rattle.headers.specs.Judged.{frameIn}
 use Rattle.reading.specs.Intake.{taken}
 use Rattle.stepping.specs.Steps.{after, Fed, firstPiece, laterPieces}
@@ -35,6 +36,6 @@ fed-on phase piece (p ∷ ps) rest w e f = (f .0, (f .1 .0, fed-on (after phase 
 -- the pieces that were fed, and those that were not, are the file's columns and what follows them
 pub stopped-whole : (s : List ℕ) (pieces rest : List (List ℕ)) (w : Verdict) → isFinal w ≡ true
     → pieces ++ rest ≡ firstPiece s (frameIn s .grid) 0 (frameIn s .grid .columns) ∷ laterPieces s (frameIn s .grid) 0 (frameIn s .grid .columns)
-    → Fed Headers (take 3428 s) pieces w → told intake w ≡ taken s
+    → Fed Headers (take headerBytes s) pieces w → told intake w ≡ taken s
 stopped-whole s pieces rest w e all f =
-    steps-whole s w (subst (λ (ps : List (List ℕ)). Fed Headers (take 3428 s) ps w) all (fed-on Headers (take 3428 s) pieces rest w e f))
+    steps-whole s w (subst (λ (ps : List (List ℕ)). Fed Headers (take headerBytes s) ps w) all (fed-on Headers (take headerBytes s) pieces rest w e f))

@@ -1,5 +1,5 @@
 -- A column with one post stored anew, as bytes: as many as before, and every one but six the old one (rule E3).
-use Prim.Native.Nat.{ℕ, _+_, _*_, _-_, _<_, _≤_}
+use Prim.Native.Nat.{ℕ, _+_, _-_, _<_, _≤_}
 use native.Mathlib.Nat.{add-zero}
 use native.Mathlib.Omega.{arith}
 use mathlib.Core.Path.{_≡_, sym, ap, _∙_}
@@ -12,6 +12,7 @@ use Rattle.octets.proofs.ChoiceLaws.{by-order}
 use Rattle.octets.proofs.NumberLaws.{length-bytes}
 use Rattle.octets.proofs.PasteLaws.{length-paste}
 use Rattle.octets.proofs.PartLaws.{paste-before, paste-behind, byte-part}
+use Rattle.layout.specs.Levels.{columnBytes}
 use Rattle.columns.specs.Column.{wordAt, sumAt}
 use Rattle.storing.specs.Stored.{withWord, stored}
 
@@ -39,7 +40,7 @@ paste-leaves l at vs inside i apart =
     (λ h. same-byte (pasted l at vs) l i (paste-before l at vs i 1 (omega arith) (omega arith)))
     (λ h. same-byte (pasted l at vs) l i (paste-behind l at vs i 1 inside h))
 
-module _ (s : List ℕ) (posts p w : ℕ) (long : length s ≡ 12 + 2 * posts) (inside : p < posts) where
+module _ (s : List ℕ) (posts p w : ℕ) (long : length s ≡ columnBytes posts) (inside : p < posts) where
   length-word : length (withWord s p w) ≡ length s
   length-word = length-paste s (wordAt p) (bytesOf 2 w) (omega (arith, length-bytes 2 w))
 

@@ -1,5 +1,5 @@
 -- The checksum of a column with one post stored anew: the old bytes' sum taken off, and the new bytes' sum added.
-use Prim.Native.Nat.{ℕ, _+_, _*_, _-_, _<_, _≤_}
+use Prim.Native.Nat.{ℕ, _+_, _-_, _<_, _≤_}
 use native.Mathlib.Omega.{arith}
 use mathlib.Core.Path.{_≡_, refl, ap, _∙_}
 use mathlib.Core.List.{List}
@@ -11,6 +11,7 @@ use Rattle.octets.specs.Sums.{sumOf}
 use Rattle.octets.proofs.NumberLaws.{length-bytes}
 use Rattle.octets.proofs.PartLaws.{paste-shown, paste-before, paste-behind}
 use Rattle.octets.proofs.SumLaws.{sum-append, sum-take, sum-bound}
+use Rattle.layout.specs.Levels.{columnBytes}
 use Rattle.columns.specs.Column.{wordAt, sumAt}
 use Rattle.storing.specs.Stored.{withWord}
 
@@ -37,7 +38,7 @@ sum-paste l i e vs h k =
     in
     omega (arith, sum-parts (pasted l i vs) i n e h, sum-parts l i n e h)
 
-module _ (s : List ℕ) (posts p w : ℕ) (long : length s ≡ 12 + 2 * posts) (inside : p < posts) where
+module _ (s : List ℕ) (posts p w : ℕ) (long : length s ≡ columnBytes posts) (inside : p < posts) where
   -- what stands at a post, and what is put there
   abbrev pub postSum : List ℕ → ℕ
   postSum l = sumOf (take (wordAt p + 2 - wordAt p) (drop (wordAt p) l))
@@ -63,5 +64,5 @@ module _ (s : List ℕ) (posts p w : ℕ) (long : length s ≡ 12 + 2 * posts) (
   sum-found after e x old new all o n = rw (all, o, n, e) sum-stored
 
 -- the bytes of a column of so few posts sum to a small number
-pub sum-small : (l : List ℕ) (n posts : ℕ) → length l ≡ 12 + 2 * posts → posts ≤ 3601 → ((i : ℕ) → getD l i 0 < 256) → sumOf (take n l) ≤ 1839570
+pub sum-small : (l : List ℕ) (n posts : ℕ) → length l ≡ columnBytes posts → posts ≤ 3601 → ((i : ℕ) → getD l i 0 < 256) → sumOf (take n l) ≤ 1839570
 sum-small l n posts long few bytes = omega (arith, sum-take n l, sum-bound l bytes)

@@ -2,6 +2,8 @@
 ghost use mathlib.Core.Path.{_≡_};
 ghost use Rattle.storing.specs.Asked.{Storable};
 ghost use Rattle.storing.specs.Stored.{stored};
+use columns::places::sum_at;
+use columns::places::word_at;
 use octets::numbers::be32;
 use octets::numbers::put16;
 use octets::numbers::put32;
@@ -12,8 +14,8 @@ pub fn store(column: &mut [u8], posts: usize, post: usize, word: u16)
     requires { ⌜ Storable (now column) posts post ⌝ }
     ensures { λ _. ⌜ now (column .exit) ≡ stored (now (column .entry)) posts post word ⌝ }
 {
-    let at = 8 + 2 * post;
-    let end = 8 + 2 * posts;
+    let at = word_at(post);
+    let end = sum_at(posts);
     let old = sum(&column[at..at + 2]);
     let rest = be32(column, end) - old;
     put16(column, at, word);

@@ -1,5 +1,5 @@
 -- X1, N14: the column writer answers exactly the first row of its order that holds.
-use Prim.Native.Nat.{ℕ, _+_, _*_, _<_}
+use Prim.Native.Nat.{ℕ, _<_}
 use mathlib.Core.Path.{_≡_}
 use mathlib.Core.Bool.{true}
 use Rattle.answers.specs.declared.Outcome.{Outcome}
@@ -31,7 +31,7 @@ module _ (level number : ℕ) (g : Given) (room : ℕ) where
   row = by-number.row level number _ _ (row-given (postsOf level) (columnBytes (postsOf level)) true g room)
 
   -- by the grid that the column was placed on
-  pub judged-on : (on-it : Grid) → placed level number ≡ On on-it → judgedPosts (on-it .posts) (12 + 2 * on-it .posts) true g room ≡ judgedColumn level number g room
+  pub judged-on : (on-it : Grid) → placed level number ≡ On on-it → judgedPosts (on-it .posts) (on-it .bytes .column) true g room ≡ judgedColumn level number g room
   unfolding judgedColumn afterNumber gridOf
   judged-on on-it on = rw (on, placed-on level number on-it on .1 .1)
 

@@ -45,7 +45,8 @@ pub fn write_given(
     match place(level, number) {
         Placed::On(grid) => {
             let posts = grid.posts;
-            let end = 12 + 2 * posts;
+            let lengths = grid.bytes;
+            let end = lengths.column;
             let judged = judge_posts(source, numbers, bytes, true, posts, end, out.len());
             if let Outcome::Done = judged {
                 put_column(&mut out[0..end], number, source, numbers, bytes, 0, posts);

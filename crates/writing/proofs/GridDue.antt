@@ -2,6 +2,8 @@
 use Prim.Native.Nat.{ℕ, _+_, _*_}
 use mathlib.Core.Path.{_≡_, ap, _∙_}
 use mathlib.Core.Bool.{true}
+use Rattle.layout.specs.Grid.{headerBytes}
+use Rattle.layout.specs.Levels.{columnBytes}
 use Rattle.layout.specs.declared.Grid.{Grid}
 use Rattle.layout.specs.Ranges.{Ranged}
 use Rattle.layout.proofs.Ranges.{ranged}
@@ -19,5 +21,5 @@ due-ranged d e g due =
     let i = ranged-items d e in
     rw due (ranged (d .level) (edgeOf (d .latitude)) (i .level) (edge-below (d .latitude) (i .latitude)))
 
-pub columns-bytes : (g : Grid) → Ranged g → g .bytes .cell ≡ 3428 + g .columns * (12 + 2 * g .posts)
-columns-bytes g r = r .cell ∙ ap (λ (m : ℕ). 3428 + g .columns * m) (r .column)
+pub columns-bytes : (g : Grid) → Ranged g → g .bytes .cell ≡ headerBytes + g .columns * columnBytes (g .posts)
+columns-bytes g r = r .cell ∙ ap (λ (m : ℕ). headerBytes + g .columns * m) (r .column)

@@ -1,9 +1,10 @@
 -- What functions of this crate ask of their callers.
-use Prim.Native.Nat.{ℕ, _+_, _*_, _≤_}
+use Prim.Native.Nat.{ℕ, _*_, _≤_}
 use mathlib.Core.Path.{_≡_}
 use mathlib.Core.Bool.{true}
 use mathlib.Core.List.{List}
 use lib.ListN.{length}
+use Rattle.layout.specs.Levels.{columnBytes}
 use Rattle.layout.specs.declared.Grid.{Grid}
 use Rattle.describing.specs.Items.{inRange}
 use Rattle.describing.specs.declared.Description.{Description}
@@ -12,7 +13,7 @@ use Rattle.writing.specs.Cell.{postsDue, frameFor}
 
 -- as many heights as the columns have posts, bytes of the columns' length, and no more of either than a cell has
 pub record ColumnsFit (out : List ℕ) (columns posts : ℕ) (g : Given) : Type 0 where
-  pub long : length out ≡ columns * (12 + 2 * posts)
+  pub long : length out ≡ columns * columnBytes posts
   pub all : countOf g ≡ columns * posts
   pub columns-high : columns ≤ 3601
   pub posts-high : posts ≤ 3601

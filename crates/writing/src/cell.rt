@@ -20,6 +20,7 @@ use describing::items::bad_item;
 use headers::judge::frame_of;
 use layout::Grid;
 use layout::HEADER_BYTES;
+use layout::levels::column_bytes;
 use sources::Source;
 use streaming::given::judge_posts;
 
@@ -35,7 +36,7 @@ fn put_columns(
     requires { ⌜ ColumnsFit (now out) columns posts (given source (now numbers) (now bytes)) ⌝ }
     ensures { λ _. ⌜ now (out .exit) ≡ columnsWritten posts (heightsOf (given source (now (numbers .entry)) (now (bytes .entry)))) columns ⌝ }
 {
-    let size = 12 + 2 * posts;
+    let size = column_bytes(posts);
     let mut k = 0;
     let mut at = 0;
     let mut from = 0;

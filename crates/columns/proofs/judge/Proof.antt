@@ -35,17 +35,15 @@ loop-holds : tie.Need-loop-holds Inv-loop μ-loop
 unfolding judgedColumn
 loop-holds c = (omega arith, rw (sub-zero, ← c .before .before .judge-head .ensures, c .enum-told .given .1))
 
-mul-at : tie.Need-mul-at Inv-loop μ-loop
-mul-at c = search needs
-
-add-at : tie.Need-add-at Inv-loop μ-loop
-add-at c = search needs
+word-at-requires : tie.Need-word-at-requires Inv-loop μ-loop
+word-at-requires c κs = search needs
 
 -- whether the word is allowed is what was found
 found : (c : tie.After-is-allowed Inv-loop μ-loop) →
-    let a = c .before .before .before .before .before .before .before .before .args in
-    wordAllowed (a .voids) (wordIn (a .column .now) (c .before .before .before .loop .i)) ≡ c .is-allowed .result
-found c = sym (rw (c .before .be16 .ensures) at (c .is-allowed .ensures))
+    let l = c .before .before .before .before in
+    let a = l .before .before .before .before .before .args in
+    wordAllowed (a .voids) (wordIn (a .column .now) (l .loop .i)) ≡ c .is-allowed .result
+found c = sym (rw (c .before .be16 .ensures, c .before .before .word-at .ensures) at (c .is-allowed .ensures))
 
 be16-requires : tie.Need-be16-requires Inv-loop μ-loop
 be16-requires c κs = search needs
@@ -53,15 +51,17 @@ be16-requires c κs = search needs
 is-allowed-requires : tie.Need-is-allowed-requires Inv-loop μ-loop
 is-allowed-requires c κs = search needs
 
-add-t14 : tie.Need-add-t14 Inv-loop μ-loop
-add-t14 c = search needs
+add-t13 : tie.Need-add-t13 Inv-loop μ-loop
+add-t13 c = search needs
 
 returns-2 : tie.Need-returns-2 Inv-loop μ-loop
 returns-2 c =
-    let l = c .before .before .before .before in
+    let w = c .before .before .before in
+    let l = w .before .before in
     let a = l .before .before .before .before .before .args in
-    sym (word-stop (a .column .now) (a .voids) (a .base) (l .loop .i) (a .posts) (c .before .before .before .loop-test .taken) (found (c .before) ∙ not-true _ (c .if1 .taken)))
-    ∙ l .loop .inv .1
+    rw (w .word-at .ensures)
+    (sym (word-stop (a .column .now) (a .voids) (a .base) (l .loop .i) (a .posts) (w .before .loop-test .taken) (found (c .before) ∙ not-true _ (c .if1 .taken)))
+    ∙ l .loop .inv .1)
 
 add-i : tie.Need-add-i Inv-loop μ-loop
 add-i c = search needs
@@ -71,10 +71,10 @@ loop-less c = search needs
 
 loop-again : tie.Need-loop-again Inv-loop μ-loop
 loop-again c =
-    let l = c .before .before .before .before in
+    let l = c .before .before .before .before .before in
     let a = l .before .before .before .before .before .args in (
       omega arith,
-      sym (word-on (a .column .now) (a .voids) (a .base) (l .loop .i) (a .posts) (c .before .before .before .loop-test .taken) (found (c .before) ∙ not-false _ (c .if1 .left)))
+      sym (word-on (a .column .now) (a .voids) (a .base) (l .loop .i) (a .posts) (c .before .before .before .before .loop-test .taken) (found (c .before) ∙ not-false _ (c .if1 .left)))
           ∙ l .loop .inv .1,
     )
 
@@ -95,11 +95,10 @@ judge-spec =
     returns
     enum-told
     loop-holds
-    mul-at
-    add-at
+    word-at-requires
     be16-requires
     is-allowed-requires
-    add-t14
+    add-t13
     returns-2
     add-i
     loop-less

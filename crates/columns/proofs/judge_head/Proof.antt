@@ -66,11 +66,8 @@ returns-4 c =
       ne-eqb _ _ (rw (c .before .be162 .ensures) at (c .if4 .taken)),
     )
 
-mul-end : tie.Need-mul-end
-mul-end c = search needs
-
-add-end : tie.Need-add-end
-add-end c = search needs
+sum-at-requires : tie.Need-sum-at-requires
+sum-at-requires c κs = search needs
 
 be32-requires : tie.Need-be32-requires
 be32-requires c κs = search needs
@@ -87,7 +84,8 @@ add-t22 c = search needs
 returns-5 : tie.Need-returns-5
 unfolding headOf
 returns-5 c =
-    let f = c .before .before .before .before in
+    let n = c .before .before .before .before in
+    let f = n .before in
     let e = f .before .before in
     let d = e .before .before in
     simp (
@@ -95,13 +93,15 @@ returns-5 c =
       eq-eqb _ _ (rw (d .before .be24 .ensures .0) at (d .if2 .left)),
       eq-eqb _ _ (rw (e .before .be16 .ensures) at (e .if3 .left)),
       eq-eqb _ _ (rw (f .before .be162 .ensures) at (f .if4 .left)),
-      ne-eqb _ _ (rw (c .before .before .before .be32 .ensures, c .before .sum .ensures) at (c .if5 .taken)),
+      ne-eqb _ _ (rw (c .before .before .before .be32 .ensures, c .before .sum .ensures, n .sum-at .ensures) at (c .if5 .taken)),
+      n .sum-at .ensures,
     )
 
 returns-6 : tie.Need-returns-6
 unfolding headOf
 returns-6 c =
-    let f = c .before .before .before .before in
+    let n = c .before .before .before .before in
+    let f = n .before in
     let e = f .before .before in
     let d = e .before .before in
     simp (
@@ -109,7 +109,7 @@ returns-6 c =
       eq-eqb _ _ (rw (d .before .be24 .ensures .0) at (d .if2 .left)),
       eq-eqb _ _ (rw (e .before .be16 .ensures) at (e .if3 .left)),
       eq-eqb _ _ (rw (f .before .be162 .ensures) at (f .if4 .left)),
-      eq-eqb _ _ (rw (c .before .before .before .be32 .ensures, c .before .sum .ensures) at (c .if5 .left)),
+      eq-eqb _ _ (rw (c .before .before .before .be32 .ensures, c .before .sum .ensures, n .sum-at .ensures) at (c .if5 .left)),
     )
 
 pub judge-head-spec : {M : Type 1} → statement M
@@ -129,8 +129,7 @@ judge-head-spec =
     be16-requires-2
     add-t17
     returns-4
-    mul-end
-    add-end
+    sum-at-requires
     be32-requires
     slice-aggregate-sum
     sum-requires

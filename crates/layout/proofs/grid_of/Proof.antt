@@ -45,20 +45,17 @@ div-posts c = omega (arith, within c)
 add-posts : tie.Need-add-posts
 add-posts c = omega (arith, within c)
 
-mul-column : tie.Need-mul-column
-mul-column c = omega (arith, within c)
-
-add-column : tie.Need-add-column
-add-column c = omega (arith, within c)
+column-bytes-requires : tie.Need-column-bytes-requires
+column-bytes-requires c κs = omega (arith, within c)
 
 mul-cell : tie.Need-mul-cell
-mul-cell c = columns-fit (omega (arith, within c)) (omega (arith, within c))
+mul-cell c = columns-fit (omega (arith, within (c .before))) (omega (arith, within (c .before), c .column-bytes .ensures))
 
 add-cell : tie.Need-add-cell
-add-cell c = cell-fits (omega (arith, within c)) (omega (arith, within c))
+add-cell c = cell-fits (omega (arith, within (c .before))) (omega (arith, within (c .before), c .column-bytes .ensures))
 
 returns : tie.Need-returns
-returns c = due c
+returns c = rw (c .column-bytes .ensures) (due (c .before))
 
 pub grid-of-spec : {M : Type 1} → statement M
 grid-of-spec =
@@ -71,8 +68,7 @@ grid-of-spec =
     add-columns
     div-posts
     add-posts
-    mul-column
-    add-column
+    column-bytes-requires
     mul-cell
     add-cell
     returns)

@@ -1,9 +1,9 @@
 -- `put_column`: preamble and words, then the sum of what stands before the checksum.
-use Prim.Native.Nat.{ℕ, _+_, _*_}
+use Prim.Native.Nat.{ℕ}
 use Rattle.columns.proofs.WrittenColumn.{column-put}
 use Rattle.columns.proofs.write.put_column.Statement.{statement}
 use Rattle.columns.proofs.write.put_column.Tie as tie
-use Rattle.columns.specs.Column.{preamble}
+use Rattle.columns.specs.Column.{preamble, sumAt}
 use Rattle.octets.proofs.JoinedLaws.{length-listed}
 use Rattle.octets.specs.Numbers.{bytesOf, bytesOfWords}
 use Rattle.octets.specs.Pastes.{pasted}
@@ -29,7 +29,7 @@ module _ (c : tie.After-put-words) where
   words-put : c .put-words .last .0 ≡ pasted (pasted (start .args .out .now) 0 (preamble (start .args .number))) 8 (bytesOfWords words)
   words-put = c .put-words .ensures ∙ ap (λ (l : List ℕ). pasted l 8 (bytesOfWords words)) (c .before .before .before .before .put-preamble .ensures)
 
-  sum-long : length (take (8 + 2 * start .args .posts) (c .put-words .last .0)) ≡ 8 + 2 * start .args .posts
+  sum-long : length (take (sumAt (start .args .posts)) (c .put-words .last .0)) ≡ sumAt (start .args .posts)
   sum-long = length-take-le _ _ (omega (arith, words-long, start .pre .long))
 
 put-preamble-requires : tie.Need-put-preamble-requires
@@ -38,20 +38,17 @@ put-preamble-requires c κs = search needs
 put-words-requires : tie.Need-put-words-requires
 put-words-requires c κs = search needs
 
-mul-end : tie.Need-mul-end
-mul-end c = search needs
-
-add-end : tie.Need-add-end
-add-end c = search needs
+sum-at-requires : tie.Need-sum-at-requires
+sum-at-requires c κs = search needs
 
 slice-reshare-prefix-sum : tie.Need-slice-reshare-prefix-sum
 slice-reshare-prefix-sum c = search needs
 
 slice-aggregate-sum : tie.Need-slice-aggregate-sum
-slice-aggregate-sum c = sym (sum-long (c .before .before .before))
+slice-aggregate-sum c = rw (c .before .sum-at .ensures) (sym (sum-long (c .before .before .before .before)))
 
 sum-requires : tie.Need-sum-requires
-sum-requires c κs = let w = c .before .before .before in omega (arith, sum-long w, start w .pre .few)
+sum-requires c κs = let w = c .before .before .before .before in rw (c .before .sum-at .ensures) (omega (arith, sum-long w, start w .pre .few))
 
 put32-requires : tie.Need-put32-requires
 put32-requires c κs = search needs
@@ -63,13 +60,14 @@ returns : tie.Need-returns
 returns c =
     let q = c .before .before in
     let s = q .before .before in
-    let w = s .before .before .before .before in
+    let end-is = s .before .before .sum-at .ensures in
+    let w = s .before .before .before .before .before in
     let a = start w .args in
-    let end = 8 + 2 * a .posts in
-    q .put32 .ensures
+    let end = sumAt (a .posts) in
+    rw end-is at (q .put32 .ensures)
     ∙ ap (λ (l : List ℕ). pasted l end (bytesOf 4 (s .sum .result))) (words-put w)
     ∙ column-put (a .out .now) (a .number) (words w) (a .posts) (length-listed _ (a .posts)) (start w .pre .long) (s .sum .result)
-    (s .sum .ensures ∙ ap (λ (l : List ℕ). sumOf (take end l)) (words-put w))
+    (rw end-is at (s .sum .ensures) ∙ ap (λ (l : List ℕ). sumOf (take end l)) (words-put w))
 
 pub put-column-spec : {M : Type 1} → statement M
 put-column-spec =
@@ -77,8 +75,7 @@ put-column-spec =
     (tie.spec
     put-preamble-requires
     put-words-requires
-    mul-end
-    add-end
+    sum-at-requires
     slice-reshare-prefix-sum
     slice-aggregate-sum
     sum-requires

@@ -1,8 +1,9 @@
 -- `put_words`: what stands so far is a paste of the words of the first heights.
-use Prim.Native.Nat.{ℕ, _+_, _-_, _*_, _<_, _≤_}
+use Prim.Native.Nat.{ℕ, _+_, _-_, _≤_}
 use Rattle.columns.proofs.WrittenColumn.{words-step}
 use Rattle.columns.proofs.write.put_words.Statement.{statement}
 use Rattle.columns.proofs.write.put_words.Tie as tie
+use Rattle.columns.specs.Column.{wordAt}
 use Rattle.octets.proofs.PasteLaws.{paste-none}
 use Rattle.octets.specs.Numbers.{bytesOf, bytesOfWords}
 use Rattle.octets.specs.Parts.{listed}
@@ -48,11 +49,8 @@ cast-word-of c = rw (height-back c) (height-fits c)
 word-of-requires : tie.Need-word-of-requires Inv-loop μ-loop
 word-of-requires c κs = search needs
 
-mul-put16 : tie.Need-mul-put16 Inv-loop μ-loop
-mul-put16 c = search needs
-
-add-put16 : tie.Need-add-put16 Inv-loop μ-loop
-add-put16 c = search needs
+word-at-requires : tie.Need-word-at-requires Inv-loop μ-loop
+word-at-requires c κs = search needs
 
 put16-requires : tie.Need-put16-requires Inv-loop μ-loop
 put16-requires c κs = search needs
@@ -66,7 +64,7 @@ loop-less c = search needs
 loop-again : tie.Need-loop-again Inv-loop μ-loop
 loop-again c =
     let p = c .before .before in
-    let w = p .before .before in
+    let w = p .before .before .before in
     let h = w .before in
     let l = h .before .before in
     let a = l .before .before .before .args in
@@ -76,9 +74,9 @@ loop-again c =
       omega arith,
       (
         p .put16 .kept .0 ∙ l .loop .inv .1 .0,
-        p .put16 .ensures
-            ∙ ap (λ (out : List ℕ). pasted out (8 + 2 * l .loop .i) (bytesOf 2 (w .word-of .result))) (l .loop .inv .1 .1)
-            ∙ ap (λ (v : ℕ). pasted (pasted (a .out .now) 8 (bytesOfWords (listed word (l .loop .i)))) (8 + 2 * l .loop .i) (bytesOf 2 v)) put
+        rw (p .before .word-at .ensures) at (p .put16 .ensures)
+            ∙ ap (λ (out : List ℕ). pasted out (wordAt (l .loop .i)) (bytesOf 2 (w .word-of .result))) (l .loop .inv .1 .1)
+            ∙ ap (λ (v : ℕ). pasted (pasted (a .out .now) 8 (bytesOfWords (listed word (l .loop .i)))) (wordAt (l .loop .i)) (bytesOf 2 v)) put
             ∙ words-step (a .out .now) word (l .loop .i) (a .posts) (omega arith) (l .before .before .before .pre .room),
       ),
     )
@@ -105,8 +103,7 @@ put-words-spec =
     height-at-requires
     cast-word-of
     word-of-requires
-    mul-put16
-    add-put16
+    word-at-requires
     put16-requires
     add-i
     loop-less

@@ -57,14 +57,11 @@ returns c = rw (found (c .before .before), allowed (c .before) ∙ not-true _ (c
 word-of-requires : tie.Need-word-of-requires
 word-of-requires c κs = search needs
 
+column-bytes-requires : tie.Need-column-bytes-requires
+column-bytes-requires c κs = omega (arith, at (c .before .before .before))
+
 add-end : tie.Need-add-end
-add-end c = omega (arith, at (c .before .before .before))
-
-mul-end : tie.Need-mul-end
-mul-end c = omega (arith, at (c .before .before .before))
-
-add-end-2 : tie.Need-add-end-2
-add-end-2 c = omega (arith, at (c .before .before .before))
+add-end c = omega (arith, at (c .before .before .before .before), c .column-bytes .ensures)
 
 sub-store : tie.Need-sub-store
 sub-store c = search needs
@@ -73,10 +70,13 @@ part-store-start : tie.Need-part-store-start
 part-store-start c = search needs
 
 part-store-end : tie.Need-part-store-end
-part-store-end c = omega (arith, at (c .before .before .before))
+part-store-end c = omega (arith, at (c .before .before .before .before), c .column-bytes .ensures)
 
 store-requires : tie.Need-store-requires
-store-requires c κs = let k = c .before .before .before .before in can-store _ _ _ (spot k) (at k)
+store-requires c κs =
+    let n = c .before in
+    let k = n .before .before .before .before in
+    can-store _ _ _ (spot k) (at k) _ (n .column-bytes .ensures)
 
 enum-known-reached-2 : tie.Need-enum-known-reached-2
 enum-known-reached-2 c = search needs
@@ -88,14 +88,15 @@ returns-2 : tie.Need-returns-2
 unfolding editTold judgedEdit edited
 returns-2 c =
     let q = c .before .before in
-    let w = q .before .before in
+    let n = q .before .before in
+    let w = n .before in
     let k = w .before .before .before in
     let a = start k .args in
     let word : w .word-of .result ≡ wordOf (a .height) = w .word-of .ensures ∙ ap wordOf (height-is k) in
     rw (found k, allowed (w .before .before) ∙ not-false _ (w .before .if1 .left)) (
       refl,
-      stored-back _ _ _ (spot k) (at k) (a .height) (q .store .last .0)
-          (q .store .ensures ∙ ap (stored (lent (a .cell .now) (a .column) (a .post) (spot k) (at k)) (spot k .posts) (a .post)) word),
+      stored-back _ _ _ (spot k) (at k) _ (n .column-bytes .ensures) (a .height) (q .store .last .0)
+          (q .store .ensures ∙ ap (stored (lent (a .cell .now) (a .column) (a .post) (spot k) (at k) _ (n .column-bytes .ensures)) (spot k .posts) (a .post)) word),
     )
 
 same-length-3 : tie.Need-same-length-3
@@ -115,9 +116,8 @@ edit-spec =
     same-length
     returns
     word-of-requires
+    column-bytes-requires
     add-end
-    mul-end
-    add-end-2
     sub-store
     part-store-start
     part-store-end

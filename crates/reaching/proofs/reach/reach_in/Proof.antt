@@ -57,11 +57,8 @@ judge-requires c κs = search needs
 enum-told : tie.Need-enum-told
 enum-told c = search needs
 
-mul-be16 : tie.Need-mul-be16
-mul-be16 c = search needs
-
-add-be16 : tie.Need-add-be16
-add-be16 c = search needs
+word-at-requires : tie.Need-word-at-requires
+word-at-requires c κs = search needs
 
 be16-requires : tie.Need-be16-requires
 be16-requires c κs = search needs
@@ -71,11 +68,12 @@ enum-known-judged c = search needs
 
 returns-4 : tie.Need-returns-4
 returns-4 c =
-    let j = c .before .before .before in
+    let w = c .before in
+    let j = w .before .before .before in
     let on = j .before .before .before in
     let a = start on .args in
     column-judged (a .cell .now) (a .frame) (a .column) (a .post) (on .before .before .if1 .left) (on .before .if2 .left) (j .before .before .if3 .left)
-    _ (part-is (a .cell .now) (a .frame .grid) (a .column) _ refl) _ (rw (c .before .enum-told .given .1) at (j .judge .ensures)) _ (c .be16 .ensures)
+    _ (part-is (a .cell .now) (a .frame .grid) (a .column) _ refl) _ (rw (w .before .enum-told .given .1) at (j .judge .ensures)) _ (rw (w .word-at .ensures) at (c .be16 .ensures))
 
 returns-5 : tie.Need-returns-5
 returns-5 c =
@@ -100,8 +98,7 @@ reach-in-spec =
     part-part-end
     judge-requires
     enum-told
-    mul-be16
-    add-be16
+    word-at-requires
     be16-requires
     enum-known-judged
     returns-4

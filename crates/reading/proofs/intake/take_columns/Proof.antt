@@ -105,20 +105,17 @@ loop-holds c =
       left = rw sub-zero (turned (c .before .before) _ (c .enum-told .given .1));
     }
 
-mul-at : tie.Need-mul-at Inv-loop μ-loop Inv-columns μ-columns
-mul-at c = search needs
-
-add-at : tie.Need-add-at Inv-loop μ-loop Inv-columns μ-columns
-add-at c = search needs
+word-at-requires : tie.Need-word-at-requires Inv-loop μ-loop Inv-columns μ-columns
+word-at-requires c κs = search needs
 
 -- whether the word is allowed is what was found
 found : (c : tie.After-is-allowed Inv-loop μ-loop Inv-columns μ-columns) →
-    let l = c .before .before .before in
+    let l = c .before .before .before .before in
     let z = l .before .before .before .before .before .before .before in
     let a = z .before .before .before .before .args in
     let part = take (z .columns .base + a .frame .grid .bytes .column - z .columns .base) (drop (z .columns .base) (a .cell .now)) in
     wordAllowed (a .frame .voids) (wordIn part (l .loop .i)) ≡ c .is-allowed .result
-found c = sym (rw (c .before .be16 .ensures) at (c .is-allowed .ensures))
+found c = sym (rw (c .before .be16 .ensures, c .before .before .word-at .ensures) at (c .is-allowed .ensures))
 
 be16-requires : tie.Need-be16-requires Inv-loop μ-loop Inv-columns μ-columns
 be16-requires c κs = search needs
@@ -126,8 +123,8 @@ be16-requires c κs = search needs
 is-allowed-requires : tie.Need-is-allowed-requires Inv-loop μ-loop Inv-columns μ-columns
 is-allowed-requires c κs = search needs
 
-add-t30 : tie.Need-add-t30 Inv-loop μ-loop Inv-columns μ-columns
-add-t30 c = search needs
+add-t29 : tie.Need-add-t29 Inv-loop μ-loop Inv-columns μ-columns
+add-t29 c = search needs
 
 add-i : tie.Need-add-i Inv-loop μ-loop Inv-columns μ-columns
 add-i c = search needs
@@ -137,11 +134,11 @@ loop-less c = search needs
 
 loop-again : tie.Need-loop-again Inv-loop μ-loop Inv-columns μ-columns
 loop-again c =
-    let l = c .before .before .before .before .loop .inv in
+    let l = c .before .before .before .before .before .loop .inv in
     record {
       due = omega arith;
       long = l .long;
-      left = rw (← word-on _ _ _ _ _ (c .before .before .before .loop-test .taken) (found (c .before) ∙ not-false _ (c .if3 .left))) (l .left);
+      left = rw (← word-on _ _ _ _ _ (c .before .before .before .before .loop-test .taken) (found (c .before) ∙ not-false _ (c .if3 .left))) (l .left);
     }
 
 add-k : tie.Need-add-k Inv-loop μ-loop Inv-columns μ-columns
@@ -182,8 +179,9 @@ returns-3 c = turned (c .before .before .before) _ (c .before .head .given .1)
 
 returns-4 : tie.Need-returns-4 Inv-loop μ-loop Inv-columns μ-columns
 returns-4 c =
-    let l = c .before .before .before .before .loop .inv .left in
-    rw (word-stop _ _ _ _ _ (c .before .before .before .loop-test .taken) (found (c .before) ∙ not-true _ (c .if3 .taken))) at l
+    let w = c .before .before .before in
+    let l = w .before .before .loop .inv .left in
+    rw (w .word-at .ensures) (rw (word-stop _ _ _ _ _ (w .before .loop-test .taken) (found (c .before) ∙ not-true _ (c .if3 .taken))) at l)
 
 pub take-columns-spec : {M : Type 1} → statement M
 take-columns-spec =
@@ -204,11 +202,10 @@ take-columns-spec =
     enum-known-head
     enum-told
     loop-holds
-    mul-at
-    add-at
+    word-at-requires
     be16-requires
     is-allowed-requires
-    add-t30
+    add-t29
     add-i
     loop-less
     loop-again

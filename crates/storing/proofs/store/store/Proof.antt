@@ -3,13 +3,13 @@ use Prim.Native.Nat.{ℕ, _+_, _-_, _≤_}
 use Rattle.storing.proofs.SumStored.{post-under, sum-found, sum-small}
 use Rattle.storing.proofs.store.store.Statement.{statement}
 use Rattle.storing.proofs.store.store.Tie as tie
-use Rattle.columns.specs.Column.{sumAt}
+use Rattle.columns.specs.Column.{wordAt, sumAt}
 use Rattle.storing.specs.Stored.{withWord, stored}
-use Rattle.octets.specs.Numbers.{bytesOf}
+use Rattle.octets.specs.Numbers.{numberAt, bytesOf}
 use Rattle.octets.specs.Pastes.{pasted}
 use Rattle.octets.specs.Sums.{sumOf}
 use borrow.Author.Needs.{needs}
-use lib.ListN.{take}
+use lib.ListN.{take, drop}
 use mathlib.Core.List.{List}
 use mathlib.Core.Path.{_≡_, ap, _∙_}
 use native.Mathlib.Omega.{arith}
@@ -18,9 +18,16 @@ use native.Mathlib.Omega.{arith}
 under : (c : tie.After-be32) → c .before .before .sum .result ≤ c .be32 .result
 under c =
     let m = c .before .before in
-    let s = m .before .before .before .before in
+    let e = m .before .before .before in
+    let s = e .before .before .before in
     let a = s .args in
-    omega (arith, m .sum .ensures, c .be32 .ensures, s .pre .checksum, post-under (a .column .now) (a .posts) (a .post) (a .word) (s .pre .long) (s .pre .inside))
+    let old = rw (e .before .word-at .ensures) at (m .sum .ensures) in
+    let all = rw (e .sum-at .ensures) at (c .be32 .ensures) in
+    omega (arith, old, all, s .pre .checksum, post-under (a .column .now) (a .posts) (a .post) (a .word) (s .pre .long) (s .pre .inside))
+
+-- the sum of two bytes, as it was asked for
+abbrev twoAt : List ℕ → ℕ → ℕ
+twoAt l at = sumOf (take (at + 2 - at) (drop at l))
 
 -- once the word was put
 module _ (c : tie.After-sum2) where
@@ -33,30 +40,40 @@ module _ (c : tie.After-sum2) where
   abbrev read : tie.After-be32
   read = put .before .before
 
+  abbrev placed : tie.After-sum-at
+  placed = read .before .before .before .before .before
+
   abbrev start : tie.Start
-  start = read .before .before .before .before .before .before
+  start = placed .before .before .before
 
   abbrev after : List ℕ
   after = withWord (start .args .column .now) (start .args .post) (start .args .word)
 
+  -- what was put, read and summed, at the places that the definitions have
+  word-put : put .put16 .last .0 ≡ after
+  word-put = put .put16 .ensures ∙ ap (λ (at : ℕ). pasted (start .args .column .now) at (bytesOf 2 (start .args .word))) (placed .before .word-at .ensures)
+
+  all-is : read .be32 .result ≡ numberAt (start .args .column .now) (sumAt (start .args .posts)) 4
+  all-is = read .be32 .ensures ∙ ap (λ (end : ℕ). numberAt (start .args .column .now) end 4) (placed .sum-at .ensures)
+
+  old-is : read .before .before .sum .result ≡ twoAt (start .args .column .now) (wordAt (start .args .post))
+  old-is = read .before .before .sum .ensures ∙ ap (twoAt (start .args .column .now)) (placed .before .word-at .ensures)
+
+  new-is : c .sum2 .result ≡ twoAt (put .put16 .last .0) (wordAt (start .args .post))
+  new-is = c .sum2 .ensures ∙ ap (twoAt (put .put16 .last .0)) (placed .before .word-at .ensures)
+
   total : read .be32 .result - read .before .before .sum .result + c .sum2 .result ≡ sumOf (take (sumAt (start .args .posts)) after)
   total =
       let a = start .args in
-      sum-found (a .column .now) (a .posts) (a .post) (a .word) (start .pre .long) (start .pre .inside) (put .put16 .last .0) (put .put16 .ensures)
+      sum-found (a .column .now) (a .posts) (a .post) (a .word) (start .pre .long) (start .pre .inside) (put .put16 .last .0) word-put
       (read .be32 .result) (read .before .before .sum .result) (c .sum2 .result)
-      (read .be32 .ensures ∙ start .pre .checksum) (read .before .before .sum .ensures) (c .sum2 .ensures)
+      (all-is ∙ start .pre .checksum) old-is new-is
 
-mul-at : tie.Need-mul-at
-mul-at c = search needs
+word-at-requires : tie.Need-word-at-requires
+word-at-requires c κs = search needs
 
-add-at : tie.Need-add-at
-add-at c = search needs
-
-mul-end : tie.Need-mul-end
-mul-end c = search needs
-
-add-end : tie.Need-add-end
-add-end c = search needs
+sum-at-requires : tie.Need-sum-at-requires
+sum-at-requires c κs = search needs
 
 add-sum : tie.Need-add-sum
 add-sum c = search needs
@@ -104,13 +121,13 @@ add-put32 c =
     let a = s .args in
     let l = put t .put16 .last .0 in
     let long = put t .put16 .kept .0 ∙ s .pre .long in
-    let first = read t .before .before .before .before .before in
+    let first = placed t .before .before in
     omega (
       arith,
-      t .sum2 .ensures,
+      new-is t,
       post-under l (a .posts) (a .post) (a .word) long (s .pre .inside),
       sum-small l (sumAt (a .posts)) (a .posts) long (s .pre .few) (λ i. known t .slice-known2 .given i .fits),
-      read t .be32 .ensures,
+      all-is t,
       s .pre .checksum,
       sum-small (a .column .now) (sumAt (a .posts)) (a .posts) (s .pre .long) (s .pre .few) (λ i. first .slice-known .given i .fits),
     )
@@ -127,18 +144,16 @@ returns c =
     let q = c .before .before in
     let t = q .before .before in
     let end = sumAt (start t .args .posts) in
-    q .put32 .ensures
-    ∙ ap (λ (l : List ℕ). pasted l end (bytesOf 4 (read t .be32 .result - read t .before .before .sum .result + t .sum2 .result))) (put t .put16 .ensures)
+    rw (placed t .sum-at .ensures) at (q .put32 .ensures)
+    ∙ ap (λ (l : List ℕ). pasted l end (bytesOf 4 (read t .be32 .result - read t .before .before .sum .result + t .sum2 .result))) (word-put t)
     ∙ ap (λ (v : ℕ). pasted (after t) end (bytesOf 4 v)) (total t)
 
 pub store-spec : {M : Type 1} → statement M
 store-spec =
     tie.close
     (tie.spec
-    mul-at
-    add-at
-    mul-end
-    add-end
+    word-at-requires
+    sum-at-requires
     add-sum
     sub-sum
     part-sum-start

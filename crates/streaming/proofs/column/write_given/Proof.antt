@@ -1,5 +1,5 @@
 -- `write_given`: a column of the level is judged, and put at the front where it was accepted.
-use Prim.Native.Nat.{ℕ, _+_, _*_}
+use Prim.Native.Nat.{ℕ}
 use Rattle.answers.specs.Told.{told, act}
 use Rattle.answers.specs.declared.Outcome.{Outcome}
 use Rattle.answers.specs.declared.Outcome.the-variants.{Done}
@@ -33,6 +33,9 @@ module _ (c : tie.After-grid) where
   abbrev posts : ℕ
   posts = c .grid .given .0 .0 .posts
 
+  abbrev size : ℕ
+  size = c .grid .given .0 .0 .bytes .column
+
   abbrev source : Given
   source = given (start .args .source) (start .args .numbers .now) (start .args .bytes .now)
 
@@ -44,16 +47,16 @@ module _ (c : tie.After-grid) where
 
 -- it was judged as the call's order says
 judged-is : (c : tie.After-judge-posts) →
-    let g = c .before .before in
+    let g = c .before .before .before in
     c .judge-posts .result ≡ judgedColumn (start g .args .level) (start g .args .number) (source g) (length (start g .args .out .now))
 judged-is c =
-    let g = c .before .before in
+    let g = c .before .before .before in
     c .judge-posts .ensures ∙ judged-on (start g .args .level) (start g .args .number) (source g) (length (start g .args .out .now)) (g .grid .given .0 .0) (on g)
 
 -- and accepted
 fine : (c : tie.After-enum-told) →
-    let g = c .before .before .before .before in
-    Fine (posts g) (12 + 2 * posts g) true (source g) (length (start g .args .out .now))
+    let g = c .before .before .before .before .before in
+    Fine (posts g) (size g) true (source g) (length (start g .args .out .now))
 fine c = given-fine _ _ _ _ _ (sym (c .before .before .judge-posts .ensures) ∙ c .enum-told .given .1)
 
 place-requires : tie.Need-place-requires
@@ -61,12 +64,6 @@ place-requires c κs = search needs
 
 enum-known-grid : tie.Need-enum-known-grid
 enum-known-grid c = search needs
-
-mul-end : tie.Need-mul-end
-mul-end c = omega (arith, range (c .before) .posts-high)
-
-add-end : tie.Need-add-end
-add-end c = omega (arith, range (c .before) .posts-high)
 
 judge-posts-requires : tie.Need-judge-posts-requires
 judge-posts-requires c κs = search needs
@@ -86,11 +83,11 @@ part-put-column-end c = fine c .roomy
 put-column-requires : tie.Need-put-column-requires
 put-column-requires c κs =
     let e = c .before in
-    let g = e .before .before .before .before in
+    let g = e .before .before .before .before .before in
     let o = placed-on _ _ _ (on g) in
     record {
       heights = record { there = omega (arith, counted (source g) (posts g) (fine e .long)); end = omega (arith, range g .posts-high) };
-      long = length-part (start g .args .out .now) 0 (12 + 2 * posts g) (omega arith) (fine e .roomy) ∙ omega arith;
+      long = length-part (start g .args .out .now) 0 (size g) (omega arith) (fine e .roomy) ∙ omega (arith, range g .column);
       few = range g .posts-high;
       small = number-small _ _ (o .0) (o .1 .0) .1;
     }
@@ -110,13 +107,13 @@ returns c =
     let p = c .before .before in
     let e = p .before .before in
     let j = e .before .before in
-    let g = j .before .before in
+    let g = j .before .before .before in
     let a = start g .args in
     let column = columnOf (a .number) (heightsOf (source g)) in
     let n = counted (source g) (posts g) (fine e .long) in
-    let long : length column ≡ 12 + 2 * posts g = length-written (a .number) (heightsOf (source g)) ∙ omega (arith, length-given (source g), n) in (
+    let long : length column ≡ size g = length-written (a .number) (heightsOf (source g)) ∙ omega (arith, length-given (source g), n, range g .column) in (
       ap (told act) (judged-is j),
-      front-put (a .out .now) column (p .put-column .last .0) (12 + 2 * posts g) long
+      front-put (a .out .now) column (p .put-column .last .0) (size g) long
           (p .put-column .ensures ∙ ap (columnOfWords (a .number)) (all-given (source g) (posts g) n))
           ∙ ap (λ (x : Outcome). outputAfter x column (a .out .now)) (sym (c .before .before .before .before .enum-told .given .1) ∙ judged-is j),
     )
@@ -125,7 +122,7 @@ returns-2 : tie.Need-returns-2
 unfolding givenTold givenOutput
 returns-2 c =
     let j = c .before .before in
-    let g = j .before .before in
+    let g = j .before .before .before in
     let a = start g .args in (
       ap (told act) (judged-is j),
       ap (λ (x : Outcome). outputAfter x (columnOf (a .number) (heightsOf (source g))) (a .out .now)) (sym (c .enum-told2 .given .1) ∙ judged-is j),
@@ -141,8 +138,6 @@ write-given-spec =
     (tie.spec
     place-requires
     enum-known-grid
-    mul-end
-    add-end
     judge-posts-requires
     enum-told
     sub-put-column

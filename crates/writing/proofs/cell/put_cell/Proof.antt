@@ -1,5 +1,6 @@
 -- `put_cell`: the headers at the front, and the columns behind them.
 use Rattle.answers.specs.declared.Outcome.the-variants.{Done}
+use Rattle.layout.specs.Grid.{headerBytes}
 use Rattle.cells.specs.Grid.{columnsWritten, afresh}
 use Rattle.columns.specs.Column.{wordsOf}
 use Rattle.composing.proofs.WrittenLength.{length-headers}
@@ -53,7 +54,7 @@ put-columns-requires c κs =
     let s = h .before .before .before .before .before in
     let r = within s in
     let kept = h .put-headers .kept .0 in
-    let part = length-part (h .put-headers .last .0) 3428 (s .args .grid .bytes .cell) (omega (arith, r .cell)) (omega (arith, kept, fits s .room)) in
+    let part = length-part (h .put-headers .last .0) headerBytes (s .args .grid .bytes .cell) (omega (arith, r .cell)) (omega (arith, kept, fits s .room)) in
     record {
       long = part ∙ omega (arith, columns-bytes (s .args .grid) r);
       all = fits s .all;
@@ -75,7 +76,7 @@ returns c =
     let r = within s in
     let long = length-columns (g .posts) (g .columns) (wordsOf zs) (length-words-given (source s) ∙ fits s .all) (g .columns) (omega arith) in
     let out = s .args .out .now in
-    behind-put out (headersFor (s .args .d)) (h .put-headers .last .0) (columnsWritten (g .posts) zs (g .columns)) (k .put-columns .last .0) 3428 (g .bytes .cell)
+    behind-put out (headersFor (s .args .d)) (h .put-headers .last .0) (columnsWritten (g .posts) zs (g .columns)) (k .put-columns .last .0) headerBytes (g .bytes .cell)
     (length-headers (s .args .d)) (omega (arith, r .cell, fits s .room)) (omega (arith, long, columns-bytes g r))
     (h .put-headers .ensures) (k .put-columns .ensures)
     ∙ ap (λ (x : Grid). outputAfter Done (afresh (headersFor (s .args .d)) x zs) out) (fits s .due)

@@ -1,5 +1,6 @@
 -- `put_columns`: after k turns the first k columns stand, and so many heights are used.
 use Prim.Native.Nat.{ℕ, _+_, _-_, _*_, _≤_}
+use Rattle.layout.specs.Levels.{columnBytes}
 use Rattle.columns.specs.Column.{columnOfWords, wordsOf}
 use Rattle.octets.proofs.JoinedLaws.{next-part, part-within, parts-small}
 use Rattle.octets.proofs.PasteLaws.{length-part}
@@ -27,7 +28,7 @@ abbrev μ-loop : tie.MeasureT-loop
 
 -- the next column's bytes and its heights are there
 record Inside (out : List ℕ) (g : Given) (posts at from : ℕ) : Type 0 where
-  bytes : at + (12 + 2 * posts) ≤ length out
+  bytes : at + columnBytes posts ≤ length out
   there : from + posts ≤ countOf g
   out-small : length out ≤ 3601 * 7214
   heights-small : countOf g ≤ 3601 * 7214
@@ -44,11 +45,11 @@ module _ (s : tie.Start Inv-loop μ-loop) where
 
 inside : (c : tie.In-loop Inv-loop μ-loop) →
     let l = c .before in
-    let s = l .before .before .before in
+    let s = l .before .before .before .before in
     Inside (l .loop .out) (source s) (s .args .posts) (l .loop .at) (l .loop .from)
 inside c =
     let l = c .before in
-    let s = l .before .before .before in
+    let s = l .before .before .before .before in
     let a = s .args in
     let f = fits s in
     let i = l .loop .inv in
@@ -56,23 +57,20 @@ inside c =
     record {
       bytes = next-there (a .posts) (a .columns) (wordsOf (heightsOf (source s))) (all s) (a .out .now) (f .long) (l .loop .out) (l .loop .k) (l .loop .at) (i .so-far) (c .loop-test .taken);
       there = omega (arith, i .from-part, f .all, posts);
-      out-small = omega (arith, i .so-far .long, f .long, parts-small (a .columns) (12 + 2 * a .posts) (f .columns-high) (omega (arith, f .posts-high)));
+      out-small = omega (arith, i .so-far .long, f .long, parts-small (a .columns) (columnBytes (a .posts)) (f .columns-high) (omega (arith, f .posts-high)));
       heights-small = omega (arith, f .all, parts-small (a .columns) (a .posts) (f .columns-high) (omega (arith, f .posts-high)));
     }
 
-mul-size : tie.Need-mul-size Inv-loop μ-loop
-mul-size c = search needs
-
-add-size : tie.Need-add-size Inv-loop μ-loop
-add-size c = search needs
+column-bytes-requires : tie.Need-column-bytes-requires Inv-loop μ-loop
+column-bytes-requires c κs = search needs
 
 loop-holds : tie.Need-loop-holds Inv-loop μ-loop
 loop-holds c =
-    let a = c .before .before .args in
+    let a = c .before .before .before .args in
     record { so-far = none (a .posts) (a .columns) (wordsOf (heightsOf (given (a .source) (a .numbers .now) (a .bytes .now)))) (a .out .now); from-part = omega arith }
 
 add-next : tie.Need-add-next Inv-loop μ-loop
-add-next c = omega (arith, inside c)
+add-next c = omega (arith, inside c, c .before .before .column-bytes .ensures)
 
 sub-put-column : tie.Need-sub-put-column Inv-loop μ-loop
 sub-put-column c = omega arith
@@ -81,17 +79,18 @@ part-put-column-start : tie.Need-part-put-column-start Inv-loop μ-loop
 part-put-column-start c = search needs
 
 part-put-column-end : tie.Need-part-put-column-end Inv-loop μ-loop
-part-put-column-end c = omega (arith, inside c)
+part-put-column-end c = omega (arith, inside c, c .before .before .column-bytes .ensures)
 
 put-column-requires : tie.Need-put-column-requires Inv-loop μ-loop
 put-column-requires c κs =
     let t = c .before in
     let l = t .before in
-    let s = l .before .before .before in
+    let s = l .before .before .before .before in
     let i = inside t in
+    let size = l .before .column-bytes .ensures in
     record {
       heights = record { there = i .there; end = omega (arith, i .there, i .heights-small) };
-      long = length-part (l .loop .out) (l .loop .at) (l .loop .at + (12 + 2 * s .args .posts)) (omega arith) (i .bytes) ∙ omega arith;
+      long = length-part (l .loop .out) (l .loop .at) (l .loop .at + l .before .column-bytes .result) (omega arith) (omega (arith, i .bytes, size)) ∙ omega (arith, size);
       few = fits s .posts-high;
       small = omega (arith, t .loop-test .taken, fits s .columns-high);
     }
@@ -110,14 +109,14 @@ loop-again c =
     let q = c .before .before in
     let t = q .before .before in
     let l = t .before in
-    let s = l .before .before .before in
+    let s = l .before .before .before .before in
     let a = s .args in
     let g = source s in
     let i = l .loop .inv in
     record {
       so-far =
           next (a .posts) (a .columns) (wordsOf (heightsOf g)) (all s) (a .out .now) (fits s .long) (l .loop .out) (l .loop .k) (l .loop .at) (i .so-far)
-          (t .loop-test .taken) (q .put-column .last .0)
+          (t .loop-test .taken) _ (l .before .column-bytes .ensures) (q .put-column .last .0)
           (rw (i .from-part) at (q .put-column .ensures) ∙ ap (columnOfWords (l .loop .k)) (part-given g (a .columns) (a .posts) (l .loop .k) (fits s .all) (t .loop-test .taken)));
       from-part = omega (arith, i .from-part, next-part (l .loop .k) (a .posts));
     }
@@ -128,7 +127,7 @@ same-length c = c .before .loop .inv .so-far .long
 returns : tie.Need-returns Inv-loop μ-loop
 returns c =
     let l = c .before in
-    let s = l .before .before .before in
+    let s = l .before .before .before .before in
     let a = s .args in
     every (a .posts) (a .columns) (wordsOf (heightsOf (source s))) (all s) (a .out .now) (fits s .long) (l .loop .out) (l .loop .k) (l .loop .at) (l .loop .inv .so-far)
     (omega (arith, c .loop-test .left))
@@ -139,8 +138,7 @@ put-columns-spec =
     (tie.spec
     Inv-loop
     μ-loop
-    mul-size
-    add-size
+    column-bytes-requires
     loop-holds
     add-next
     sub-put-column
