@@ -11,7 +11,7 @@ use reaching::reach::Reached;
 use reaching::reach::reach;
 use storing::store::store;
 
-// Post `post` of column `column` made this height, -32767 for void; any bytes and any numbers.
+// Post `post` of column `column` made this height, or void's number; any bytes and any numbers.
 pub fn edit(cell: &mut [u8], column: usize, post: usize, height: i64) -> Outcome
     ensures { λ r. ⌜ told.told told.act r ≡ editTold (now (cell .entry)) column post height ⌝ }
     ensures { λ _. ⌜ now (cell .exit) ≡ edited (now (cell .entry)) column post height ⌝ }

@@ -8,6 +8,9 @@ use lib.IntN.{ℤ, pos, negsuc}
 use lib.ListN.{getD}
 use borrow.Author.Tests.{eq-eqb, ne-eqb, lt-ltb, le-ltb}
 use Rattle.answers.specs.Told.{Told, refused, said, more, numberTold, placeTold}
+use Rattle.posts.specs.Heights.{voidDepth, voidNumber}
+use Rattle.posts.specs.Heights as posts
+use Rattle.posts.proofs.Voids.{not-void}
 use Rattle.packing.specs.Packed.{bits, voidBits, aGrid, aHeight, aPosition, Held, holds, nothing, holding, packedHeld, heldBy, refusal, packed}
 use Rattle.packing.specs.Apart.{numberIn, placeIn, heldIn, firstIn, secondIn, thirdIn, heightOf, isVoid, heightIn, saying, toldIn, FitsHeight, Fits}
 use Rattle.packing.specs.Apart as fits
@@ -57,12 +60,12 @@ bits-back (negsuc n) h =
     let size : 65536 - (65535 - n) ≡ suc n = omega arith in
     rw (same, le-ltb (65535 - n) 32768 (omega arith), size)
 
-bits-apart : (z : ℤ) → FitsHeight z → bits z ≡ voidBits → ⊥
-bits-apart (pos n) h e = omega arith
-bits-apart (negsuc n) h e = omega arith
+height-apart : (z : ℤ) → FitsHeight z → z ≡ voidNumber → ⊥
+height-apart (pos n) h e = let z : _≡_ {A = ℕ} 0 1 = cc in omega arith
+height-apart (negsuc n) h e = let same : n ≡ voidDepth - 1 = cc in omega arith
 
 no-void : (z : ℤ) → FitsHeight z → isVoid (bits z) ≡ false
-no-void z f = ne-eqb (bits z) voidBits (bits-apart z f)
+no-void z f = ap posts.isVoid (bits-back z f) ∙ not-void z (height-apart z f)
 
 pub height-back : (what a b : ℕ) (z : ℤ) → FitsHeight z → heightIn (holding what a b (bits z)) ≡ z
 height-back what a b z f = ap heightOf (third-back what a b (bits z) (bits-small z)) ∙ bits-back z f

@@ -1,10 +1,12 @@
 -- An answer taken apart as the functions of include/dted.h do, and what its bits can hold (rule B4).
-use Prim.Native.Nat.{ℕ, _-_, _/_, _%_, _<_}
+use Prim.Native.Nat.{ℕ, suc, _-_, _/_, _%_, _<_}
 use mathlib.Core.Bool.{Bool}
 use lib.Dec.{eqb, ltb}
 use lib.IntN.{ℤ, pos, negsuc, negℤ}
 use Rattle.octets.specs.Choice.{pick}
 use Rattle.answers.specs.Told as told
+use Rattle.posts.specs.Heights.{voidDepth}
+use Rattle.posts.specs.Heights as posts
 
 -- dted_number and dted_place
 abbrev pub numberIn : ℕ → ℕ
@@ -27,12 +29,13 @@ secondIn r = r / 65536 % 65536
 abbrev pub thirdIn : ℕ → ℕ
 thirdIn r = r % 65536
 
--- 16 bits as a height, in two's complement; void is -32767
+-- 16 bits as a height, in two's complement
 abbrev pub heightOf : ℕ → ℤ
 heightOf word = pick (ltb word 32768) (pos word) (negℤ (pos (65536 - word)))
 
+-- DTED_VOID among them
 abbrev pub isVoid : ℕ → Bool
-isVoid word = eqb word (65536 - 32767)
+isVoid word = posts.isVoid (heightOf word)
 
 -- dted_height
 abbrev pub heightIn : ℕ → ℤ
@@ -56,7 +59,7 @@ toldIn r = pick (eqb (numberIn r) 0) (saying (heldIn r) (firstIn r) (secondIn r)
 -- a height of 16 bits that is not void's number. `negsuc n` is -(n + 1)
 abbrev pub FitsHeight : ℤ → Type 0
 FitsHeight (pos n) = n < 32768
-FitsHeight (negsuc n) = n < 32766
+FitsHeight (negsuc n) = suc n < voidDepth
 
 -- 8 bits for a number, 56 for a place, 16 for each value; no call of a C host answers "more"
 pub data Fits : told.Told → Type 0 where

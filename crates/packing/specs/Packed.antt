@@ -2,9 +2,10 @@
 -- answer holds, and three values.
 use Prim.Native.Nat.{ℕ, _+_, _-_, _*_, _%_}
 use mathlib.Core.List.{List, [], _∷_}
-use lib.IntN.{ℤ, pos, negsuc, negℤ}
+use lib.IntN.{ℤ, pos, negsuc}
 use lib.ListN.{getD}
 use Rattle.answers.specs.Told.{Told, refused, said, valueAt, countAt}
+use Rattle.posts.specs.Heights.{voidNumber}
 
 -- 16 bits of a number; of one below 0, in two's complement. `negsuc n` is -(n + 1)
 abbrev pub bits : ℤ → ℕ
@@ -13,7 +14,7 @@ bits (negsuc n) = 65535 - n % 65536
 
 -- void, as a height of a C host
 abbrev pub voidBits : ℕ
-voidBits = bits (negℤ (pos 32767))
+voidBits = bits voidNumber
 
 -- what an answer that is no refusal holds: nothing, which is 0; a grid; a height; a position, which is a post with its height
 abbrev pub aGrid : ℕ
@@ -55,7 +56,7 @@ heldBy values =
     ∷ nothing
     ∷ []
 
--- B4: level, columns and posts; a height, void being -32767; column, post and height; or nothing
+-- B4: level, columns and posts; a height, or void's number; column, post and height; or nothing
 unfoldable pub packed : Told → ℕ
 packed (refused number place) = refusal number place
 packed (said tag values) = packedHeld (getD (heldBy values) tag nothing)

@@ -8,8 +8,8 @@ use answers::Reading;
 use answers::Refusal;
 use answers::Verdict;
 
-// Void, as heights are given and answered.
-const VOID: i16 = -32767;
+// Void's number, in the 16 bits of a height.
+const VOID: i16 = posts::heights::VOID as i16;
 
 // What an answer that is no refusal holds; 0 is nothing.
 const A_GRID: usize = 1;

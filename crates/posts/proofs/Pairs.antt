@@ -8,13 +8,13 @@ use mathlib.Core.Bool.{Bool, true, false≢true}
 use lib.IntN.{ℤ, pos, negsuc}
 use borrow.Author.Tests.{leb-true, le-leb}
 use Rattle.posts.specs.Words.{postOf, inRange, wordAllowed}
-use Rattle.posts.specs.Heights.{formOf, heightAllowed, wordOf}
+use Rattle.posts.specs.Heights.{voidDepth, voidNumber, formOf, heightAllowed, wordOf}
 use Rattle.posts.proofs.PostWords.{up-in-range, down-in-range, up-post, down-post, up-allowed, down-allowed}
 use Rattle.posts.proofs.Voids.{not-void}
 
 -- an allowed word, and its height in the writer's form
 pub data Pair (voids : Bool) : ℕ → ℤ → Type 0 where
-  void : voids ≡ true → Pair voids 0xFFFF (negsuc 32766)
+  void : voids ≡ true → Pair voids 0xFFFF voidNumber
   up : (n : ℕ) → n ≤ 9000 → Pair voids n (pos n)
   down : (w n : ℕ) → w ≡ 0x8001 + n → n < 12000 → Pair voids w (negsuc n)
 
@@ -46,7 +46,7 @@ unfolding heightAllowed
 height-in-pair (void v) = v
 height-in-pair (up n h) = up-in-range n ∙ le-leb n 9000 h
 height-in-pair (down w n e h) =
-    rw (not-void (negsuc n) (λ q. let m : n ≡ 32766 = cc in omega arith)) (down-in-range (suc n) ∙ le-leb (suc n) 12000 h)
+    rw (not-void (negsuc n) (λ q. let m : n ≡ voidDepth - 1 = cc in omega arith)) (down-in-range (suc n) ∙ le-leb (suc n) 12000 h)
 
 -- every allowed word has its height
 pub pair-of-word : (voids : Bool) (w : ℕ) → wordAllowed voids w ≡ true → Pair voids w (formOf (postOf w))
@@ -75,10 +75,10 @@ pair-of-height voids (pos n) a =
     let h : n ≤ 9000 = leb-true n 9000 (sym (up-in-range n) ∙ a) in
     rw (mod-eq-of-lt {n = n} {m = 0x8000} (omega arith)) (up n h)
 pair-of-height voids (negsuc n) a =
-    elim (ℕ-discrete n 32766) [
+    elim (ℕ-discrete n (voidDepth - 1)) [
       | yes e ↦ rw e (void (rw e at a))
       | no v ↦
-          let r : inRange (negsuc n) ≡ true = rw (not-void (negsuc n) (λ q. let m : n ≡ 32766 = cc in v m)) at a in
+          let r : inRange (negsuc n) ≡ true = rw (not-void (negsuc n) (λ q. let m : n ≡ voidDepth - 1 = cc in v m)) at a in
           let h : suc n ≤ 12000 = leb-true (suc n) 12000 (sym (down-in-range (suc n)) ∙ r) in
           down (0x8000 + (n + 1) % 0x8000) n (omega arith) h
     ]

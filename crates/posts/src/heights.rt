@@ -1,12 +1,15 @@
-// Heights as a caller gives them: metres, and -32767 for void.
+// Heights as a caller gives them: metres, and one number for void.
 ghost use mathlib.Core.Path.{_≡_};
 ghost use Rattle.posts.specs.Heights.{heightAllowed, wordOf};
+
+// Void, as heights are given and answered.
+pub const VOID: i64 = -32767;
 
 // Whether a cell may hold this height: `voids` says whether it may hold voids.
 pub fn is_allowed(height: i64, voids: bool) -> bool
     ensures { λ r. ⌜ r ≡ heightAllowed voids height ⌝ }
 {
-    if height == -32767 {
+    if height == VOID {
         return voids;
     }
     if height < -12000 {

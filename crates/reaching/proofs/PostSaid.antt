@@ -7,15 +7,15 @@ use mathlib.Core.Bool.{Bool, true, false}
 use lib.IntN.{ℤ, pos, negℤ}
 use Rattle.answers.specs.Told.{told, post}
 use Rattle.posts.specs.Words.{postOf}
-use Rattle.posts.specs.Heights.{isVoid, heightAllowed, wordOf, saidBy}
+use Rattle.posts.specs.Heights.{voidDepth, isVoid, heightAllowed, wordOf, saidBy}
 use Rattle.posts.proofs.PostWords.{up-post, down-post}
 use Rattle.posts.proofs.RoundTrip.{height-back}
 use Rattle.posts.proofs.Voids.{not-void}
 use Rattle.reaching.specs.Lookup.{postReads, saidOf}
 
-below-void : (m : ℕ) → (m ≡ 32767 → ⊥) → isVoid (negℤ (pos m)) ≡ false
+below-void : (m : ℕ) → (m ≡ voidDepth → ⊥) → isVoid (negℤ (pos m)) ≡ false
 below-void zero h = refl
-below-void (suc n) h = not-void (negℤ (pos (suc n))) (λ q. let k : n ≡ 32766 = cc in h (omega arith))
+below-void (suc n) h = not-void (negℤ (pos (suc n))) (λ q. let k : n ≡ voidDepth - 1 = cc in h (omega arith))
 
 pub said : (w : ℕ) → told post (postReads (postOf w)) ≡ saidOf (saidBy w)
 unfolding postOf

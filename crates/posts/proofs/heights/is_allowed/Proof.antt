@@ -5,7 +5,7 @@ use mir.Syntax.{w64}
 use mir.Val.{ofZ}
 use mir.Facts.{toZ-ofZ, sfits-lit}
 use Rattle.posts.specs.Words.{inRange}
-use Rattle.posts.specs.Heights.{heightAllowed}
+use Rattle.posts.specs.Heights.{voidNumber, heightAllowed}
 use Rattle.octets.proofs.Signed.{same-bits, le-not-lt}
 use Rattle.posts.proofs.Voids.{not-void}
 use Rattle.posts.proofs.heights.is_allowed.Statement.{statement}
@@ -13,7 +13,7 @@ use Rattle.posts.proofs.heights.is_allowed.Tie as tie
 
 returns : tie.Need-returns
 unfolding heightAllowed
-returns c = rw (same-bits w64 {z = negsuc 32766} (c .before .fits .height) (sfits-lit tt) (c .if1 .taken))
+returns c = rw (same-bits w64 {z = voidNumber} (c .before .fits .height) (sfits-lit tt) (c .if1 .taken))
 
 returns-2 : tie.Need-returns-2
 unfolding heightAllowed inRange
