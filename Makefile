@@ -29,17 +29,17 @@ fmt:
 # ---- what the kit proves and compiles ----
 
 # all that each is proved from, folders too, so that an edited, a new and a removed file are seen
-INTAKE_SOURCES := $(shell tools/sources intake)
+INTAKE_SOURCES := $(shell tools/sources intake_program)
 LIBRARY_SOURCES := $(shell tools/sources dted)
 PLAIN := target/staticlib/libdted.a
-PROGRAM := target/bin/intake
+PROGRAM := target/bin/intake_program
 
 $(PLAIN): $(LIBRARY_SOURCES)
 	@tools/prove staticlib dted
 
 # rt leaves a program as it is where its sources say the same as before
 $(PROGRAM): $(INTAKE_SOURCES)
-	@tools/prove check intake
+	@tools/prove check intake_program
 	@touch $@
 
 # any other cell: make run CELL=path

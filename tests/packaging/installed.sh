@@ -94,6 +94,12 @@ for compiler in "$cc" $second; do
 done
 good "the README's example" build "$cc" dted "$work/readme.c" "$work/readme" &&
     same "the README's example, run" 486 "$(tools/x86-64 "$work/readme" <cells/terrain.dt0)"
+# what the README says that it prints
+sed -n 's/^    \.\/height <\([^ ]*\) *# /\1 /p' README.md >"$work/shown"
+good 'the README shows what its example prints, twice' [ "$(wc -l <"$work/shown")" -eq 2 ]
+while read -r cell line; do
+    same "the README's example on $cell" "$line" "$(tools/x86-64 "$work/readme" <"$cell")"
+done <"$work/shown"
 good "the README's example, shared" build "$cc" dted-shared "$work/readme.c" "$work/readme" &&
     same "the README's example, shared, run" 486 "$(LD_LIBRARY_PATH=$there/lib tools/x86-64 "$work/readme" <cells/terrain.dt0)"
 # shellcheck disable=SC2046

@@ -13,7 +13,7 @@ echo 'rt: octets proved (1 s)'
 mkdir -p target/staticlib target/bin
 case \$1\${PROVED:-} in
 staticlib) cp "$work/given.a" target/staticlib/libdted.a ;;
-check) cp "$work/second/bin/dted-intake" target/bin/intake ;;
+check) cp "$work/second/bin/dted-intake" target/bin/intake_program ;;
 esac
 [ -z "\${FAILING:-}" ] && exit
 echo '/crates/octets/src/sums.rt:7:19: error: a slip'
@@ -56,24 +56,24 @@ asks 'lib after an edit of crates.txt' 'staticlib dted' make lib
 # the answer alone is on standard output, and a line a crate on the other
 same 'run, its line' "$(cat cells/north_89.line)" "$(in_tree make -s run 2>"$work/shown")"
 same 'run, what else is shown' 'rt: octets proved (1 s)' "$(cat "$work/shown")"
-same 'run, what is kept' 2 "$(wc -l <"$tree/target/log/rt-check-intake.log")"
+same 'run, what is kept' 2 "$(wc -l <"$tree/target/log/rt-check-intake_program.log")"
 asks 'run once more' '' make -s run
 edit crates/printing/src/lib.rt
-asks 'run after an edit' 'check intake' make -s run
+asks 'run after an edit' 'check intake_program' make -s run
 edit crates/printing/src/lib.rt
-asks 'run after an edit that changes nothing' 'check intake' env PROVED=yes make -s run
+asks 'run after an edit that changes nothing' 'check intake_program' env PROVED=yes make -s run
 asks 'run after that' '' make -s run
 edit crates/octets/src/lib.rt
-asks 'install after an edit' 'staticlib dted,check intake' make install DESTDIR="$stage" PREFIX="$prefix"
+asks 'install after an edit' 'staticlib dted,check intake_program' make install DESTDIR="$stage" PREFIX="$prefix"
 
 # ---- a proof that fails ----
 edit crates/octets/src/lib.rt
 bad 'run after a slip' 'sums.rt:7:19: error: a slip' in_tree env FAILING=yes make -s run
-same 'run after a slip, where all of it is' 1 "$(grep -cF 'is in target/log/rt-check-intake.log' "$work/said")"
-asks 'run after the slip is put right' 'check intake' make -s run
+same 'run after a slip, where all of it is' 1 "$(grep -cF 'is in target/log/rt-check-intake_program.log' "$work/said")"
+asks 'run after the slip is put right' 'check intake_program' make -s run
 edit crates/octets/src/lib.rt
 bad 'install after a slip' 'rt staticlib dted ended in 3' in_tree env FAILING=yes make install DESTDIR="$stage" PREFIX="$prefix"
-same 'the status of rt' 3 "$(in_tree env FAILING=yes tools/prove check intake 2>/dev/null || echo $?)"
+same 'the status of rt' 3 "$(in_tree env FAILING=yes tools/prove check intake_program 2>/dev/null || echo $?)"
 
 # ---- other archives, by their bytes ----
 # When a program was last linked.
@@ -93,7 +93,7 @@ same 'of its names one is seen from outside' dted_none "$(names "$tree/target/sh
 edit crates/octets/src/lib.rt
 rm -rf "$stage"
 asks 'install of that archive' '' make install DESTDIR="$stage" PREFIX="$prefix" ARCHIVE="$work/other.a"
-touch "$tree/target/bin/intake"
+touch "$tree/target/bin/intake_program"
 good 'install of that archive once more' in_tree make install DESTDIR="$stage" PREFIX="$prefix" ARCHIVE="$work/other.a"
 same 'the plain program is not beside it' '1, 0' \
     "$(grep -cF 'dted-intake is left out' "$work/log"), $(find "$stage" -name dted-intake | wc -l)"

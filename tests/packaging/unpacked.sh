@@ -121,7 +121,7 @@ intake_of() { # WORD..
     rm -rf "$stage"
 }
 mkdir -p "$fresh/target/staticlib" "$fresh/target/bin"
-made=(ARCHIVE=target/staticlib/libdted.a INTAKE=target/bin/intake)
+made=(ARCHIVE=target/staticlib/libdted.a INTAKE=target/bin/intake_program)
 cp "$work/given.a" "$fresh/${made[0]#*=}" && touch "$fresh/${made[0]#*=}"
 same 'after make lib' 'status 0, left out 1, there 0' "$(intake_of)"
 cp "$work/second/bin/dted-intake" "$fresh/${made[1]#*=}"

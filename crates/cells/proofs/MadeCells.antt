@@ -13,7 +13,7 @@ use Rattle.layout.specs.declared.Frame.{Frame}
 use Rattle.layout.specs.Ranges.{Ranged}
 use Rattle.headers.specs.Judged.{judged, factsIn, frameOf, frameIn, Follows}
 use Rattle.headers.specs.declared.Facts.{Facts}
-use Rattle.headers.specs.declared.Judged.the-variants.{Good}
+use Rattle.headers.specs.declared.JudgedHeaders.the-variants.{Good}
 use Rattle.headers.proofs.Exactly.{good-follows, follows-good}
 use Rattle.headers.proofs.FirstFour.{GoodFacts, good-facts}
 use Rattle.headers.proofs.SameHeaders.{same-headers}

@@ -1,1 +1,1 @@
-// What a cell is made of: definitions and laws alone, which reading, writing and editing share.
+// What a cell is made of: definitions and laws alone, which intake, the lookups, the writers and the edit share.

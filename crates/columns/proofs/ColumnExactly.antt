@@ -13,15 +13,15 @@ use Rattle.posts.specs.Words.{wordAllowed}
 use Rattle.answers.specs.declared.Refusal.the-variants.{Preamble, Checksum, Word}
 use Rattle.columns.specs.Column.{wordAt, sumAt, wordIn, PreambleRight, Summed, Sealed}
 use Rattle.columns.specs.Judged.{headOf, wordsFrom, judgedColumn}
-use Rattle.columns.specs.declared.Judged.{Judged}
-use Rattle.columns.specs.declared.Judged.the-variants.{Good, Refused}
+use Rattle.columns.specs.declared.JudgedColumn.{JudgedColumn}
+use Rattle.columns.specs.declared.JudgedColumn.the-variants.{Good, Refused}
 
 -- each word before the i-th is allowed
 abbrev pub AllowedBefore : List ℕ → Bool → ℕ → Type 0
 AllowedBefore s voids i = Before (λ (j : ℕ). wordAllowed voids (wordIn s j)) i
 
 -- the rows in their order, each where it holds and none before it does
-pub data Row (s : List ℕ) (k posts : ℕ) (voids : Bool) (base : ℕ) : Judged → Type 0 where
+pub data Row (s : List ℕ) (k posts : ℕ) (voids : Bool) (base : ℕ) : JudgedColumn → Type 0 where
   -- 4
   sentinel : (getD s 0 0 ≡ 170 → ⊥) → Row s k posts voids base (Refused (Preamble base))
   block : getD s 0 0 ≡ 170 → (numberAt s 1 3 ≡ k → ⊥) → Row s k posts voids base (Refused (Preamble (base + 1)))
@@ -40,7 +40,7 @@ module _ (s : List ℕ) (k posts : ℕ) (voids : Bool) (base : ℕ) where
   abbrev test : ℕ → Bool
   test i = wordAllowed voids (wordIn s i)
 
-  abbrev refusal : ℕ → Judged
+  abbrev refusal : ℕ → JudgedColumn
   refusal i = Refused (Word (base + wordAt i))
 
   -- a head that is right leaves the answer to the words
@@ -51,7 +51,7 @@ module _ (s : List ℕ) (k posts : ℕ) (voids : Bool) (base : ℕ) where
       simp (eq-eqb _ _ (p .sentinel), eq-eqb _ _ (p .block), eq-eqb _ _ (p .longitude), eq-eqb _ _ (p .latitude), eq-eqb _ _ (h .checksum))
 
   -- every row's answer is given
-  pub given : (j : Judged) → Row s k posts voids base j → judgedColumn s k posts voids base ≡ j
+  pub given : (j : JudgedColumn) → Row s k posts voids base j → judgedColumn s k posts voids base ≡ j
   unfolding judgedColumn headOf
   given _ (sentinel n) = simp (ne-eqb _ _ n)
   given _ (block a n) = simp (eq-eqb _ _ a, ne-eqb _ _ n)
@@ -64,7 +64,7 @@ module _ (s : List ℕ) (k posts : ℕ) (voids : Bool) (base : ℕ) where
 
   -- a row whose answer is j
   abbrev Some : Type 0
-  Some = (j : Judged) × Row s k posts voids base j
+  Some = (j : JudgedColumn) × Row s k posts voids base j
 
   by-search : Sealed s k posts → Searched test posts → Some
   by-search h (first i u bad f) = (_, word h i u bad f)

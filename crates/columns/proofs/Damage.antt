@@ -19,24 +19,24 @@ use Rattle.posts.specs.Words.{wordAllowed}
 use Rattle.answers.specs.declared.Refusal.the-variants.{Preamble, Checksum, Word}
 use Rattle.columns.specs.Column.{wordAt, sumAt, wordIn, GoodColumn}
 use Rattle.columns.specs.Judged.{andThen, headOf, wordsFrom, judgedColumn, RefusedIn}
-use Rattle.columns.specs.declared.Judged.{Judged}
-use Rattle.columns.specs.declared.Judged.the-variants.{Good, Refused}
+use Rattle.columns.specs.declared.JudgedColumn.{JudgedColumn}
+use Rattle.columns.specs.declared.JudgedColumn.the-variants.{Good, Refused}
 use Rattle.columns.proofs.Exactly.{good-only}
 
 -- ---- every answer is good, or has its place in the column
 
-abbrev PlacedIn : ℕ → ℕ → Judged → Type 0
+abbrev PlacedIn : ℕ → ℕ → JudgedColumn → Type 0
 PlacedIn lo hi a = (a ≡ Good → ⊥) → RefusedIn lo hi a
 
 module _ (lo hi : ℕ) where
   good-in : PlacedIn lo hi Good
   good-in n = n refl
 
-  pick-in : (t : Bool) (a b : Judged) → PlacedIn lo hi a → PlacedIn lo hi b → PlacedIn lo hi (pick t a b)
+  pick-in : (t : Bool) (a b : JudgedColumn) → PlacedIn lo hi a → PlacedIn lo hi b → PlacedIn lo hi (pick t a b)
   pick-in true a b p q = p
   pick-in false a b p q = q
 
-  then-in : (a b : Judged) → PlacedIn lo hi a → PlacedIn lo hi b → PlacedIn lo hi (andThen a b)
+  then-in : (a b : JudgedColumn) → PlacedIn lo hi a → PlacedIn lo hi b → PlacedIn lo hi (andThen a b)
   then-in Good b p q = q
   then-in (Refused r) b p q = p
 

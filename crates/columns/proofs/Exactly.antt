@@ -8,13 +8,13 @@ use lib.ListN.{length}
 use Rattle.layout.specs.Levels.{columnBytes}
 use Rattle.columns.specs.Column.{GoodColumn}
 use Rattle.columns.specs.Judged.{judgedColumn}
-use Rattle.columns.specs.declared.Judged.{Judged}
-use Rattle.columns.specs.declared.Judged.the-variants.{Good}
+use Rattle.columns.specs.declared.JudgedColumn.{JudgedColumn}
+use Rattle.columns.specs.declared.JudgedColumn.the-variants.{Good}
 use Rattle.columns.proofs.ColumnExactly.{Row, sentinel, block, longitude, latitude, checksum, word, good, row, given}
 
 module _ (s : List ℕ) (k posts : ℕ) (voids : Bool) (base : ℕ) where
   -- only the last row answers good
-  is-good : length s ≡ columnBytes posts → (j : Judged) → Row s k posts voids base j → j ≡ Good → GoodColumn s k posts voids
+  is-good : length s ≡ columnBytes posts → (j : JudgedColumn) → Row s k posts voids base j → j ≡ Good → GoodColumn s k posts voids
   is-good long _ (sentinel n) e = let z : _≡_ {A = ℕ} 0 1 = cc in absurd (omega arith)
   is-good long _ (block a n) e = let z : _≡_ {A = ℕ} 0 1 = cc in absurd (omega arith)
   is-good long _ (longitude a b n) e = let z : _≡_ {A = ℕ} 0 1 = cc in absurd (omega arith)

@@ -8,14 +8,14 @@ use Rattle.posts.specs.Words.{wordAllowed}
 use Rattle.answers.specs.declared.Refusal.the-variants.{Word}
 use Rattle.columns.specs.Column.{wordAt, wordIn}
 use Rattle.columns.specs.Judged.{wordsFrom}
-use Rattle.columns.specs.declared.Judged.{Judged}
-use Rattle.columns.specs.declared.Judged.the-variants.{Good, Refused}
+use Rattle.columns.specs.declared.JudgedColumn.{JudgedColumn}
+use Rattle.columns.specs.declared.JudgedColumn.the-variants.{Good, Refused}
 
 module _ (s : List ℕ) (voids : Bool) (base i posts : ℕ) where
   abbrev test : ℕ → Bool
   test j = wordAllowed voids (wordIn s j)
 
-  abbrev bad : ℕ → Judged
+  abbrev bad : ℕ → JudgedColumn
   bad j = Refused (Word (base + wordAt j))
 
   pub word-on : i < posts → wordAllowed voids (wordIn s i) ≡ true

@@ -4,7 +4,7 @@ use mathlib.Core.Path.{_≡_}
 use mathlib.Core.List.{List}
 use lib.ListN.{length}
 use Rattle.layout.specs.Levels.{columnBytes}
-use Rattle.sources.specs.Given.{Given, countOf}
+use Rattle.sources.specs.Heights.{Heights, countOf}
 use Rattle.columns.specs.Column.{sumAt}
 
 -- a column that is there whole, so short that 32 bits hold its sum, and an end of it that 64 bits hold
@@ -14,12 +14,12 @@ pub record Whole (column : List ℕ) (posts base : ℕ) : Type 0 where
   pub end : base + columnBytes posts < 2 ^ 64
 
 -- so many heights from height `first` on, and an end of theirs that 64 bits hold
-pub record Reaches (g : Given) (first posts : ℕ) : Type 0 where
+pub record Reaches (g : Heights) (first posts : ℕ) : Type 0 where
   pub there : first + posts ≤ countOf g
   pub end : first + posts < 2 ^ 64
 
 -- such heights, and room for their words after a preamble
-pub record WordsFit (out : List ℕ) (g : Given) (first posts : ℕ) : Type 0 where
+pub record WordsFit (out : List ℕ) (g : Heights) (first posts : ℕ) : Type 0 where
   pub heights : Reaches g first posts
   pub room : sumAt posts ≤ length out
 
@@ -29,7 +29,7 @@ pub record PreambleFits (out : List ℕ) (number : ℕ) : Type 0 where
   pub small : number < 65536
 
 -- such heights, bytes of their column's length, and a number that its preamble can hold
-pub record ColumnFits (out : List ℕ) (number : ℕ) (g : Given) (first posts : ℕ) : Type 0 where
+pub record ColumnFits (out : List ℕ) (number : ℕ) (g : Heights) (first posts : ℕ) : Type 0 where
   pub heights : Reaches g first posts
   pub long : length out ≡ columnBytes posts
   pub few : posts ≤ 3601

@@ -12,16 +12,16 @@ use Rattle.posts.specs.Words.{wordAllowed}
 use Rattle.answers.specs.Told.{numbered, placeTold}
 use Rattle.answers.specs.declared.Refusal.the-variants.{Preamble, Checksum, Word}
 use Rattle.columns.specs.Column.{wordAt, sumAt, wordIn}
-use Rattle.columns.specs.declared.Judged.{Judged}
-use Rattle.columns.specs.declared.Judged.the-variants.{Good, Refused}
+use Rattle.columns.specs.declared.JudgedColumn.{JudgedColumn}
+use Rattle.columns.specs.declared.JudgedColumn.the-variants.{Good, Refused}
 
 -- the second where the first is good
-abbrev pub andThen : Judged → Judged → Judged
+abbrev pub andThen : JudgedColumn → JudgedColumn → JudgedColumn
 andThen Good rest = rest
 andThen (Refused r) rest = Refused r
 
 -- C3, N4, N5: the preamble fields in their order, then the checksum
-unfoldable pub headOf : List ℕ → ℕ → ℕ → ℕ → Judged
+unfoldable pub headOf : List ℕ → ℕ → ℕ → ℕ → JudgedColumn
 headOf s k posts base =
     pick (eqb (getD s 0 0) 170)
     (pick (eqb (numberAt s 1 3) k)
@@ -36,13 +36,13 @@ headOf s k posts base =
     (Refused (Preamble base))
 
 -- N6: n words from post i on, up to the first that is not allowed
-abbrev pub wordsFrom : List ℕ → Bool → ℕ → ℕ → ℕ → Judged
+abbrev pub wordsFrom : List ℕ → Bool → ℕ → ℕ → ℕ → JudgedColumn
 wordsFrom s voids base i n = firstBad (λ (j : ℕ). wordAllowed voids (wordIn s j)) (λ (j : ℕ). Refused (Word (base + wordAt j))) Good i n
 
-unfoldable pub judgedColumn : List ℕ → ℕ → ℕ → Bool → ℕ → Judged
+unfoldable pub judgedColumn : List ℕ → ℕ → ℕ → Bool → ℕ → JudgedColumn
 judgedColumn s k posts voids base = andThen (headOf s k posts base) (wordsFrom s voids base 0 posts)
 
 -- refused, at a place from lo on and below hi
-abbrev pub RefusedIn : ℕ → ℕ → Judged → Type 0
+abbrev pub RefusedIn : ℕ → ℕ → JudgedColumn → Type 0
 RefusedIn lo hi Good = ⊥
 RefusedIn lo hi (Refused r) = (lo ≤ placeTold (numbered r)) × (placeTold (numbered r) < hi)

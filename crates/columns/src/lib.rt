@@ -15,51 +15,51 @@ use octets::numbers::be32;
 use octets::sums::sum;
 use posts::words::is_allowed;
 
-pub enum Judged {
+pub enum JudgedColumn {
     Good,
     Refused(Refusal),
 }
 
 // The preamble fields in their order, then the checksum. Places count from `base`, the column's offset in the file.
-pub fn judge_head(column: &[u8], number: usize, posts: usize, base: usize) -> Judged
+pub fn judge_head(column: &[u8], number: usize, posts: usize, base: usize) -> JudgedColumn
     requires { ⌜ Whole (now column) posts base ⌝ }
     ensures { λ r. ⌜ r ≡ headOf (now (column .entry)) number posts base ⌝ }
 {
     if column[0] != 170 {
-        return Judged::Refused(Refusal::Preamble(base));
+        return JudgedColumn::Refused(Refusal::Preamble(base));
     }
     if be24(column, 1) as usize != number {
-        return Judged::Refused(Refusal::Preamble(base + 1));
+        return JudgedColumn::Refused(Refusal::Preamble(base + 1));
     }
     if be16(column, 4) as usize != number {
-        return Judged::Refused(Refusal::Preamble(base + 4));
+        return JudgedColumn::Refused(Refusal::Preamble(base + 4));
     }
     if be16(column, 6) != 0 {
-        return Judged::Refused(Refusal::Preamble(base + 6));
+        return JudgedColumn::Refused(Refusal::Preamble(base + 6));
     }
     let end = sum_at(posts);
     if be32(column, end) != sum(&column[..end]) {
-        return Judged::Refused(Refusal::Checksum(base + end));
+        return JudgedColumn::Refused(Refusal::Checksum(base + end));
     }
-    Judged::Good
+    JudgedColumn::Good
 }
 
 // The preamble, the checksum, then the first word that is not allowed.
-pub fn judge(column: &[u8], number: usize, posts: usize, voids: bool, base: usize) -> Judged
+pub fn judge(column: &[u8], number: usize, posts: usize, voids: bool, base: usize) -> JudgedColumn
     requires { ⌜ Whole (now column) posts base ⌝ }
     ensures { λ r. ⌜ r ≡ judgedColumn (now (column .entry)) number posts voids base ⌝ }
 {
     let head = judge_head(column, number, posts, base);
-    if let Judged::Refused(refusal) = head {
-        return Judged::Refused(refusal);
+    if let JudgedColumn::Refused(refusal) = head {
+        return JudgedColumn::Refused(refusal);
     }
     let mut i = 0;
     while i < posts {
         let at = word_at(i);
         if !is_allowed(be16(column, at), voids) {
-            return Judged::Refused(Refusal::Word(base + at));
+            return JudgedColumn::Refused(Refusal::Word(base + at));
         }
         i += 1;
     }
-    Judged::Good
+    JudgedColumn::Good
 }

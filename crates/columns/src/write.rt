@@ -2,7 +2,7 @@
 ghost use mathlib.Core.Path.{_≡_};
 ghost use Rattle.octets.specs.Numbers.{bytesOfWords};
 ghost use Rattle.octets.specs.Pastes.{pasted};
-ghost use Rattle.sources.specs.Given.{given, wordsGiven};
+ghost use Rattle.sources.specs.Heights.{heightsFrom, heightWords};
 ghost use Rattle.columns.specs.Asked.{WordsFit, PreambleFits, ColumnFits};
 ghost use Rattle.columns.specs.Column.{preamble, columnOfWords};
 use crate::places::sum_at;
@@ -24,8 +24,8 @@ fn put_words(
     first: usize,
     posts: usize,
 )
-    requires { ⌜ WordsFit (now out) (given source (now numbers) (now bytes)) first posts ⌝ }
-    ensures { λ _. ⌜ now (out .exit) ≡ pasted (now (out .entry)) 8 (bytesOfWords (wordsGiven (given source (now (numbers .entry)) (now (bytes .entry))) first posts)) ⌝ }
+    requires { ⌜ WordsFit (now out) (heightsFrom source (now numbers) (now bytes)) first posts ⌝ }
+    ensures { λ _. ⌜ now (out .exit) ≡ pasted (now (out .entry)) 8 (bytesOfWords (heightWords (heightsFrom source (now (numbers .entry)) (now (bytes .entry))) first posts)) ⌝ }
 {
     let mut i = 0;
     while i < posts {
@@ -57,8 +57,8 @@ pub fn put_column(
     first: usize,
     posts: usize,
 )
-    requires { ⌜ ColumnFits (now out) number (given source (now numbers) (now bytes)) first posts ⌝ }
-    ensures { λ _. ⌜ now (out .exit) ≡ columnOfWords number (wordsGiven (given source (now (numbers .entry)) (now (bytes .entry))) first posts) ⌝ }
+    requires { ⌜ ColumnFits (now out) number (heightsFrom source (now numbers) (now bytes)) first posts ⌝ }
+    ensures { λ _. ⌜ now (out .exit) ≡ columnOfWords number (heightWords (heightsFrom source (now (numbers .entry)) (now (bytes .entry))) first posts) ⌝ }
 {
     put_preamble(out, number);
     put_words(out, source, numbers, bytes, first, posts);

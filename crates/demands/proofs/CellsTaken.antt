@@ -11,18 +11,18 @@ use borrow.Fn.Kinds as K
 use Rattle.answers.specs.Told.{Told, refused, accepted, numberTold, placeTold, told}
 use Rattle.answers.specs.Told as telling
 use Rattle.answers.proofs.Injective.{number-ranged}
-use Rattle.packing.specs.Packed.{packed}
-use Rattle.packing.specs.Apart.{numberIn, placeIn, toldIn, Fits}
-use Rattle.packing.specs.Apart as fits
-use Rattle.packing.proofs.TakenApart.{number-told, place-told}
+use Rattle.host_answers.specs.Packed.{packed}
+use Rattle.host_answers.specs.Apart.{numberIn, placeIn, toldIn, Fits}
+use Rattle.host_answers.specs.Apart as fits
+use Rattle.host_answers.proofs.TakenApart.{number-told, place-told}
 use Rattle.headers.specs.Judged.{factsIn}
 use Rattle.cells.specs.Cell.{startOf, Cell}
-use Rattle.reading.specs.Intake.{taken}
-use Rattle.reading.proofs.CellExactly.{cell-accepted}
-use Rattle.reading.proofs.IntakeExactly.{endOf, IntakeRow, bad-headers, cut, column, surplus, fine, row}
-use Rattle.reading.proofs.OneByte.{one-byte-refused}
-use Rattle.reading.proofs.intake.intake.Reads as intake
-use Rattle.reading.proofs.intake.intake.Kinds as intake-kinds
+use Rattle.intake.specs.Intake.{taken}
+use Rattle.intake.proofs.CellExactly.{cell-accepted}
+use Rattle.intake.proofs.IntakeExactly.{endOf, IntakeRow, bad-headers, cut, column, surplus, fine, row}
+use Rattle.intake.proofs.OneByte.{one-byte-refused}
+use Rattle.intake.proofs.intake.Reads as intake
+use Rattle.intake.proofs.intake.Kinds as intake-kinds
 use Rattle.dted.proofs.cells.dted_intake.Reads as host-intake
 use Rattle.dted.proofs.cells.dted_intake.Kinds as host-intake-kinds
 use Rattle.demands.proofs.PlacesFit.{intake-fits}

@@ -13,7 +13,7 @@ use borrow.Fn.Kinds as K
 use Rattle.answers.specs.Told.{told, act}
 use Rattle.answers.specs.declared.Outcome.the-variants.{Done}
 use Rattle.answers.proofs.Injective.{told-injective}
-use Rattle.packing.specs.Packed.{packed}
+use Rattle.host_answers.specs.Packed.{packed}
 use Rattle.octets.specs.Numbers.{Bytes}
 use Rattle.octets.specs.Parts.{joined}
 use Rattle.octets.proofs.JoinedLaws.{joined-all}
@@ -24,12 +24,12 @@ use Rattle.headers.specs.Judged.{factsIn}
 use Rattle.columns.specs.Column.{heightsIn}
 use Rattle.cells.specs.Cell.{columnAt, Cell}
 use Rattle.cells.proofs.MadeCells.{cell-facts}
-use Rattle.streaming.specs.Column.{columnTold, columnOutput}
-use Rattle.sources.specs.Given.{heightsInBytes}
-use Rattle.hosting.proofs.AsHeights.{column-same}
-use Rattle.writing.proofs.ByteReturn.{cell-of-level, return-done, byte-return}
-use Rattle.streaming.proofs.column.write.Reads as write-column
-use Rattle.streaming.proofs.column.write.Kinds as write-column-kinds
+use Rattle.column_writer.specs.Column.{columnTold, columnOutput}
+use Rattle.sources.specs.Heights.{heightsInBytes}
+use Rattle.host_writers.proofs.AsHeights.{column-same}
+use Rattle.cell_writer.proofs.ByteReturn.{cell-of-level, return-done, byte-return}
+use Rattle.column_writer.proofs.write.Reads as write-column
+use Rattle.column_writer.proofs.write.Kinds as write-column-kinds
 use Rattle.dted.proofs.writers.dted_write_column.Reads as host-write-column
 use Rattle.dted.proofs.writers.dted_write_column.Kinds as host-write-column-kinds
 use Rattle.demands.proofs.HostAnswers.{done-0}

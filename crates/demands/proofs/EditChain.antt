@@ -14,11 +14,11 @@ use Rattle.cells.specs.Words.{cellOfWords, wordsOfCell}
 use Rattle.cells.specs.Grid.{afresh, gridIn}
 use Rattle.cells.proofs.FramedWords.{Made}
 use Rattle.cells.proofs.MadeCells.{Headed, made-cell, made-frame, cell-headed, cell-made, cell-remade}
-use Rattle.editing.specs.Edit.{edited}
-use Rattle.editing.specs.Sequence.{Call, takes, afterEdits, wordsWith, wordsAfter, gridAfter}
-use Rattle.editing.proofs.FrameEdits.{with-made}
-use Rattle.editing.proofs.EditWords.{edit-words, edits-left, edits-cell}
-use Rattle.editing.proofs.AfterEdits.{edits-grid, edits-afresh}
+use Rattle.edit.specs.Edit.{edited}
+use Rattle.edit.specs.Sequence.{Call, takes, afterEdits, wordsWith, wordsAfter, gridAfter}
+use Rattle.edit.proofs.FrameEdits.{with-made}
+use Rattle.edit.proofs.EditWords.{edit-words, edits-left, edits-cell}
+use Rattle.edit.proofs.AfterEdits.{edits-grid, edits-afresh}
 
 module _ {A : Type 0} (isDone : A → Bool) where
   -- calls take bytes to bytes with these answers: each leaves what an edit leaves, and of a cell answers done exactly where it takes

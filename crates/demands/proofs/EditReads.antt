@@ -11,18 +11,18 @@ use Rattle.answers.specs.Told.{told, act}
 use Rattle.answers.specs.Told as telling
 use Rattle.answers.specs.declared.Outcome.the-variants.{Done}
 use Rattle.answers.proofs.Injective.{told-injective}
-use Rattle.packing.specs.Packed.{packed}
-use Rattle.packing.specs.Apart.{toldIn}
+use Rattle.host_answers.specs.Packed.{packed}
+use Rattle.host_answers.specs.Apart.{toldIn}
 use Rattle.octets.specs.Numbers.{Bytes}
 use Rattle.cells.specs.Cell.{Cell}
-use Rattle.reaching.specs.Lookup.{saidOf, lookedUp}
-use Rattle.editing.specs.Edit.{judgedEdit, editTold, edited}
-use Rattle.editing.proofs.EditExactly.{accepted-exactly}
-use Rattle.editing.proofs.LookupAfter.{edited-post, other-post}
-use Rattle.editing.proofs.edit.edit.Reads as edit
-use Rattle.editing.proofs.edit.edit.Kinds as edit-kinds
-use Rattle.reaching.proofs.lookup.look_up.Reads as look-up
-use Rattle.reaching.proofs.lookup.look_up.Kinds as look-up-kinds
+use Rattle.lookup.specs.Lookup.{heightSaid, lookedUp}
+use Rattle.edit.specs.Edit.{judgedEdit, editTold, edited}
+use Rattle.edit.proofs.EditExactly.{accepted-exactly}
+use Rattle.edit.proofs.LookupAfter.{edited-post, other-post}
+use Rattle.edit.proofs.edit.Reads as edit
+use Rattle.edit.proofs.edit.Kinds as edit-kinds
+use Rattle.lookup.proofs.look_up.Reads as look-up
+use Rattle.lookup.proofs.look_up.Kinds as look-up-kinds
 use Rattle.dted.proofs.cells.dted_edit.Reads as host-edit
 use Rattle.dted.proofs.cells.dted_edit.Kinds as host-edit-kinds
 use Rattle.dted.proofs.cells.dted_post.Reads as host-post
@@ -33,7 +33,7 @@ use Rattle.demands.proofs.HostTold.{post-told}
 -- after an edit that was judged done, in the bytes m that it left: what is told of its post, and of any other
 module _ (l : List ℕ) (cell : Cell l) (bytes : Bytes l) (c p : ℕ) (z : ℤ) (e : judgedEdit l c p z ≡ Done)
     (m : List ℕ) (left : m ≡ edited l c p z) (k i : ℕ) where
-  own-told : k ≡ c → i ≡ p → lookedUp m k i ≡ saidOf z
+  own-told : k ≡ c → i ≡ p → lookedUp m k i ≡ heightSaid z
   own-told same-c same-p =
       let it = accepted-exactly l c p z .0 e in
       let on = it .0 .on in
@@ -54,7 +54,7 @@ module _ (κs : L.Lfts 1) (a : K.Dens κs edit-kinds.ps) (r : _) (s : _) (kept :
 
   -- a lookup of its post afterwards
   pub edited-answered : (κs' : L.Lfts 1) (b : K.Dens κs' look-up-kinds.ps) (q : _) (t : _) → look-up.Post κs' b q t
-      → now (b .0) ≡ now (s .0) → b .1 .0 ≡ a .1 .0 → b .1 .1 .0 ≡ a .1 .1 .0 → told telling.post q ≡ saidOf (a .1 .1 .1 .0)
+      → now (b .0) ≡ now (s .0) → b .1 .0 ≡ a .1 .0 → b .1 .1 .0 ≡ a .1 .1 .0 → told telling.post q ≡ heightSaid (a .1 .1 .1 .0)
   edited-answered κs' b q t kept' same c p =
       kept' ∙ own-told (now (a .0)) cell bytes (a .1 .0) (a .1 .1 .0) (a .1 .1 .1 .0) judged-done (now (b .0)) (same ∙ kept .1) (b .1 .0) (b .1 .1 .0) c p
 
@@ -76,7 +76,7 @@ module _ (κs : L.Lfts 1) (a : K.Dens κs host-edit-kinds.ps) (r : _) (s : _) (k
   host-judged-done = was-done (judgedEdit (now (a .0)) (a .1 .0) (a .1 .1 .0) (a .1 .1 .1 .0)) (sym (kept .0) ∙ was)
 
   pub host-edited-answered : (κs' : L.Lfts 1) (b : K.Dens κs' host-post-kinds.ps) (q : _) (t : _) → host-post.Post κs' b q t
-      → now (b .0) ≡ now (s .0) → b .1 .0 ≡ a .1 .0 → b .1 .1 .0 ≡ a .1 .1 .0 → toldIn q ≡ saidOf (a .1 .1 .1 .0)
+      → now (b .0) ≡ now (s .0) → b .1 .0 ≡ a .1 .0 → b .1 .1 .0 ≡ a .1 .1 .0 → toldIn q ≡ heightSaid (a .1 .1 .1 .0)
   host-edited-answered κs' b q t kept' same c p =
       post-told κs' b q t kept'
       ∙ own-told (now (a .0)) cell bytes (a .1 .0) (a .1 .1 .0) (a .1 .1 .1 .0) host-judged-done (now (b .0)) (same ∙ kept .1) (b .1 .0) (b .1 .1 .0) c p

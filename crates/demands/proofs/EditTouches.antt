@@ -7,11 +7,11 @@ use lib.ListN.{length, getD}
 use contract.Lifetimes as L
 use denote.Ref.{now}
 use borrow.Fn.Kinds as K
-use Rattle.storing.proofs.StoredBytes.{NoneOf}
-use Rattle.editing.specs.Edit.{edited}
-use Rattle.editing.proofs.SixBytes.{postAt, checksumAt, same-length, six-bytes}
-use Rattle.editing.proofs.edit.edit.Reads as edit
-use Rattle.editing.proofs.edit.edit.Kinds as edit-kinds
+use Rattle.column_edit.proofs.StoredBytes.{NoneOf}
+use Rattle.edit.specs.Edit.{edited}
+use Rattle.edit.proofs.SixBytes.{postAt, checksumAt, same-length, six-bytes}
+use Rattle.edit.proofs.edit.Reads as edit
+use Rattle.edit.proofs.edit.Kinds as edit-kinds
 use Rattle.dted.proofs.cells.dted_edit.Reads as host-edit
 use Rattle.dted.proofs.cells.dted_edit.Kinds as host-edit-kinds
 

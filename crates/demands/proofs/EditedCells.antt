@@ -12,11 +12,11 @@ use Rattle.answers.proofs.Injective.{told-injective}
 use Rattle.octets.specs.Numbers.{Bytes}
 use Rattle.headers.specs.Judged.{frameIn}
 use Rattle.cells.specs.Cell.{Cell}
-use Rattle.editing.specs.Edit.{judgedEdit, editTold}
-use Rattle.editing.specs.Sequence.{Call, takes}
-use Rattle.editing.proofs.EditWords.{edit-answered}
-use Rattle.editing.proofs.edit.edit.Reads as edit
-use Rattle.editing.proofs.edit.edit.Kinds as kinds
+use Rattle.edit.specs.Edit.{judgedEdit, editTold}
+use Rattle.edit.specs.Sequence.{Call, takes}
+use Rattle.edit.proofs.EditWords.{edit-answered}
+use Rattle.edit.proofs.edit.Reads as edit
+use Rattle.edit.proofs.edit.Kinds as kinds
 use Rattle.demands.proofs.EditChain.{Chain, empty, call, Left, chain-left}
 
 -- an answer tells done
@@ -30,27 +30,27 @@ done-exactly true (Refused r) e = ap isDone (e .1 refl)
 done-exactly false (Refused r) e = refl
 
 -- what a call was given
-abbrev pub given : (κs : L.Lfts 1) → K.Dens κs kinds.ps → Call
-given κs a = record { column = a .1 .0; post = a .1 .1 .0; height = a .1 .1 .1 .0 }
+abbrev pub callOf : (κs : L.Lfts 1) → K.Dens κs kinds.ps → Call
+callOf κs a = record { column = a .1 .0; post = a .1 .1 .0; height = a .1 .1 .1 .0 }
 
 -- calls of `edit`, each of which keeps its promise, take bytes to bytes with these answers
 pub data Edits : List ℕ → List Call → List Outcome → List ℕ → Type 1 where
   none : {l : List ℕ} → Edits l [] [] l
   more : {es : List Call} {rs : List Outcome} {l : List ℕ} (κs : L.Lfts 1) (a : K.Dens κs kinds.ps) (r : Outcome) (s : _)
-      → edit.Post κs a r s → Edits (s .0 .now) es rs l → Edits (a .0 .now) (given κs a ∷ es) (r ∷ rs) l
+      → edit.Post κs a r s → Edits (s .0 .now) es rs l → Edits (a .0 .now) (callOf κs a ∷ es) (r ∷ rs) l
 
 -- one call answers what is judged
 call-answered : (κs : L.Lfts 1) (a : K.Dens κs kinds.ps) (r : Outcome) (s : _) → edit.Post κs a r s → Cell (a .0 .now)
-    → isDone r ≡ takes (frameIn (a .0 .now)) (given κs a)
+    → isDone r ≡ takes (frameIn (a .0 .now)) (callOf κs a)
 unfolding editTold
 call-answered κs a r s promise cell =
-    let e = given κs a in
+    let e = callOf κs a in
     let same = told-injective act r (judgedEdit (a .0 .now) (e .column) (e .post) (e .height)) (promise .0) in
     done-exactly (takes (frameIn (a .0 .now)) e) r (rw same (edit-answered (a .0 .now) cell e))
 
 chained : {l l' : List ℕ} {es : List Call} {rs : List Outcome} → Edits l es rs l' → Chain isDone l es rs l'
 chained none = empty
-chained (more κs a r s promise rest) = call (a .0 .now) (s .0 .now) (given κs a) r (promise .1) (call-answered κs a r s promise) (chained rest)
+chained (more κs a r s promise rest) = call (a .0 .now) (s .0 .now) (callOf κs a) r (promise .1) (call-answered κs a r s promise) (chained rest)
 
 pub edited-cells : (l l' : List ℕ) (es : List Call) (rs : List Outcome) → Edits l es rs l' → Cell l → Bytes l → Left isDone l es rs l'
 edited-cells l l' es rs calls = chain-left l l' es rs (chained calls)

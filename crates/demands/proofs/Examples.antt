@@ -11,13 +11,13 @@ use Rattle.octets.specs.Pastes.{pasted}
 use Rattle.columns.specs.Column.{preamble, sealed, columnOfWords}
 use Rattle.posts.specs.Heights.{wordOf}
 use Rattle.posts.specs.Words.{heightOf, postOf, inRange, wordAllowed}
-use Rattle.storing.specs.Stored.{stored}
-use Rattle.locating.specs.Position.{southWest}
-use Rattle.editing.specs.Edit.{storedIn}
+use Rattle.column_edit.specs.Stored.{stored}
+use Rattle.position.specs.Position.{southWest}
+use Rattle.edit.specs.Edit.{storedIn}
 use Rattle.dted.specs.Grid.{fromSouth}
-use Rattle.demands.specs.Marked.{Example, table, made, givens, answers}
+use Rattle.demands.specs.Marked.{Example, table, made, inputs, answers}
 
-pub marked : map made givens ≡ answers
+pub marked : map made inputs ≡ answers
 unfolding made fromSouth factorAmong factorOf latitudeInterval postsOf longitudeInterval columnsOf cellBytes gridOf edgeOf southWest heightOf postOf inRange wordAllowed wordOf places sumOf preamble bytesOfWords sealed columnOfWords pasted stored storedIn
 marked = refl
 

@@ -14,9 +14,9 @@ use Rattle.answers.specs.declared.Refusal.{Refusal}
 use Rattle.answers.specs.declared.Outcome.{Outcome}
 use Rattle.answers.specs.declared.Outcome.the-variants.{Done, Refused}
 use Rattle.answers.proofs.Injective.{refusal-told, number-ranged}
-use Rattle.packing.specs.Packed.{packed}
-use Rattle.reading.specs.Intake.{taken}
-use Rattle.reading.proofs.IntakeExactly.{IntakeRow, bad-headers, cut, column, surplus, fine, row}
+use Rattle.host_answers.specs.Packed.{packed}
+use Rattle.intake.specs.Intake.{taken}
+use Rattle.intake.proofs.IntakeExactly.{IntakeRow, bad-headers, cut, column, surplus, fine, row}
 use Rattle.dted.proofs.cells.dted_intake.Reads as intake
 use Rattle.dted.proofs.cells.dted_intake.Kinds as intake-kinds
 

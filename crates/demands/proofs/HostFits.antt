@@ -9,34 +9,34 @@ use lib.IntN.{ℤ}
 use lib.ListN.{length}
 use Rattle.answers.specs.Told.{told, act}
 use Rattle.answers.specs.declared.Outcome.{Outcome}
-use Rattle.packing.specs.Apart.{Fits}
-use Rattle.packing.specs.Apart as fits
+use Rattle.host_answers.specs.Apart.{Fits}
+use Rattle.host_answers.specs.Apart as fits
 use Rattle.headers.specs.Judged.{judged}
-use Rattle.headers.specs.declared.Judged.{Judged}
-use Rattle.headers.specs.declared.Judged.the-variants as headers
+use Rattle.headers.specs.declared.JudgedHeaders.{JudgedHeaders}
+use Rattle.headers.specs.declared.JudgedHeaders.the-variants as headers
 use Rattle.layout.specs.Levels.{postsOf, columnBytes}
 use Rattle.layout.specs.Grid.{laid}
 use Rattle.layout.specs.Zones.{nearEdge}
 use Rattle.layout.specs.declared.Laid.{Laid}
 use Rattle.layout.specs.declared.Laid.the-variants.{Out, NoLevel, NoZone}
 use Rattle.layout.proofs.Ranges.{ranged, laid-out}
-use Rattle.describing.specs.Described.{describedBy, described}
-use Rattle.describing.proofs.RangedItems.{failed-below}
-use Rattle.writing.specs.Cell.{postsDue, frameFor}
-use Rattle.writing.proofs.GridDue.{due-ranged}
+use Rattle.description.specs.Described.{describedBy, described}
+use Rattle.description.proofs.RangedItems.{failed-below}
+use Rattle.cell_writer.specs.Cell.{postsDue, frameFor}
+use Rattle.cell_writer.proofs.GridDue.{due-ranged}
 use Rattle.octets.proofs.JoinedLaws.{parts-small}
-use Rattle.writing.proofs.ItemExactly.{item, then-rest}
-use Rattle.numbering.specs.Items.{numberTests, descriptionOf}
-use Rattle.hosting.specs.Cell.{judgedBytes, bytesTold}
-use Rattle.hosting.specs.Column.{columnBytesTold}
-use Rattle.sources.specs.Given.{inBytes}
-use Rattle.hosting.proofs.BytesExactly as cell
-use Rattle.streaming.specs.Column.{givenTold}
-use Rattle.streaming.proofs.ColumnExactly as column
-use Rattle.numbering.proofs.ItemNumbers.{number-exactly, in-range}
+use Rattle.cell_writer.proofs.ItemExactly.{item, then-rest}
+use Rattle.host_items.specs.Items.{numberTests, descriptionOf}
+use Rattle.host_writers.specs.Cell.{judgedBytes, bytesTold}
+use Rattle.host_writers.specs.Column.{columnBytesTold}
+use Rattle.sources.specs.Heights.{inBytes}
+use Rattle.host_writers.proofs.BytesExactly as cell
+use Rattle.column_writer.specs.Column.{columnToldFrom}
+use Rattle.column_writer.proofs.ColumnExactly as column
+use Rattle.host_items.proofs.ItemNumbers.{number-exactly, in-range}
 use Rattle.dted.specs.Grid.{saidOfLaid, gridTold}
 use Rattle.dted.specs.Description.{saidOfDescribed}
-use Rattle.demands.proofs.PlacesFit.{small-fits, ranged-fits, headers-fit, given-fits, number-fits}
+use Rattle.demands.proofs.PlacesFit.{small-fits, ranged-fits, headers-fit, posts-fits, number-fits}
 
 cell-by : (items : List ℤ) (grid : List ℕ) (room : ℕ) (x : Outcome) → cell.CellRow items grid room x → Fits (told act x)
 unfolding numberTests
@@ -46,7 +46,7 @@ cell-by items grid room x (then-rest _ e r) =
     let d = descriptionOf items in
     let g = due-ranged d (in-range items (number-exactly items .0 .1 e)) (frameFor d .grid) refl in
     let posts = parts-small (frameFor d .grid .columns) (frameFor d .grid .posts) (g .columns-high) (omega (arith, g .posts-high)) in
-    given-fits (postsDue (frameFor d .grid)) (frameFor d .grid .bytes .cell) (frameFor d .voids) (inBytes grid) room (omega (arith, posts)) (g .cell-high) x r
+    posts-fits (postsDue (frameFor d .grid)) (frameFor d .grid .bytes .cell) (frameFor d .voids) (inBytes grid) room (omega (arith, posts)) (g .cell-high) x r
 
 -- the writer
 pub write-fits : (items : List ℤ) (grid out : List ℕ) → Fits (bytesTold items grid out)
@@ -55,9 +55,9 @@ write-fits items grid out = cell-by items grid (length out) (judgedBytes items g
 
 -- the column writer
 pub write-column-fits : (level number : ℕ) (posts out : List ℕ) → Fits (columnBytesTold level number posts out)
-unfolding givenTold
+unfolding columnToldFrom
 write-column-fits level number posts out =
-    number-fits level number _ (given-fits (postsOf level) (columnBytes (postsOf level)) true (inBytes posts) (length out)) _ (column.row level number (inBytes posts) (length out))
+    number-fits level number _ (posts-fits (postsOf level) (columnBytes (postsOf level)) true (inBytes posts) (length out)) _ (column.row level number (inBytes posts) (length out))
 
 -- the grid
 grid-by : (level edge : ℕ) (x : Laid) → laid level edge ≡ x → Fits (saidOfLaid x)
@@ -72,7 +72,7 @@ unfolding gridTold
 grid-fits level latitude = grid-by level (nearEdge latitude) (laid level (nearEdge latitude)) refl
 
 -- the description reader
-describe-by : (s : List ℕ) (x : Judged) → judged s ≡ x → Fits (saidOfDescribed (describedBy s x))
+describe-by : (s : List ℕ) (x : JudgedHeaders) → judged s ≡ x → Fits (saidOfDescribed (describedBy s x))
 describe-by s (headers.Good f) e = fits.done
 describe-by s (headers.Refused r) e = headers-fit s r e
 

@@ -7,16 +7,16 @@ use contract.Lifetimes as L
 use denote.Ref.{now}
 use borrow.Fn.Kinds as K
 use Rattle.answers.specs.Told.{Told}
-use Rattle.packing.specs.Packed.{packed}
-use Rattle.packing.specs.Apart.{toldIn, Fits}
-use Rattle.packing.proofs.TakenApart.{told-back}
-use Rattle.describing.specs.Described.{described}
-use Rattle.reading.specs.Intake.{taken}
-use Rattle.reaching.specs.Lookup.{lookedUp}
-use Rattle.locating.specs.Position.{located}
-use Rattle.editing.specs.Edit.{editTold}
-use Rattle.hosting.specs.Cell.{bytesTold}
-use Rattle.hosting.specs.Column.{columnBytesTold}
+use Rattle.host_answers.specs.Packed.{packed}
+use Rattle.host_answers.specs.Apart.{toldIn, Fits}
+use Rattle.host_answers.proofs.TakenApart.{told-back}
+use Rattle.description.specs.Described.{described}
+use Rattle.intake.specs.Intake.{taken}
+use Rattle.lookup.specs.Lookup.{lookedUp}
+use Rattle.position.specs.Position.{located}
+use Rattle.edit.specs.Edit.{editTold}
+use Rattle.host_writers.specs.Cell.{bytesTold}
+use Rattle.host_writers.specs.Column.{columnBytesTold}
 use Rattle.dted.specs.Grid.{gridTold}
 use Rattle.dted.specs.Description.{saidOfDescribed}
 use Rattle.dted.proofs.cells.dted_intake.Reads as intake-call

@@ -10,24 +10,24 @@ use borrow.Fn.Kinds as K
 use Rattle.answers.specs.Told.{accepted}
 use Rattle.answers.specs.declared.Outcome.{Outcome}
 use Rattle.answers.specs.declared.Outcome.the-variants.{Done}
-use Rattle.packing.specs.Packed.{packed}
-use Rattle.describing.specs.Described.{described}
+use Rattle.host_answers.specs.Packed.{packed}
+use Rattle.description.specs.Described.{described}
 use Rattle.fields.specs.declared.Item.{Item}
-use Rattle.describing.specs.declared.Described.{Described}
-use Rattle.reading.specs.Intake.{taken}
-use Rattle.reaching.specs.Lookup.{saidOf, lookedUp}
-use Rattle.writing.specs.Cell.{postsDue, frameFor, cellOf}
-use Rattle.streaming.specs.Given.{outputAfter}
+use Rattle.description.specs.declared.Described.{Described}
+use Rattle.intake.specs.Intake.{taken}
+use Rattle.lookup.specs.Lookup.{heightSaid, lookedUp}
+use Rattle.cell_writer.specs.Cell.{postsDue, frameFor, cellOf}
+use Rattle.column_writer.specs.Judged.{outputAfter}
 use Rattle.cells.specs.Grid.{heightAt}
-use Rattle.writing.proofs.Restores.{restored-description, restored-accepted, restored-post}
-use Rattle.sources.specs.Given.{inBytes, heightsInBytes}
-use Rattle.sources.proofs.GivenLaws.{counted, length-given, height-given}
+use Rattle.cell_writer.proofs.Restores.{restored-description, restored-accepted, restored-post}
+use Rattle.sources.specs.Heights.{inBytes, heightsInBytes}
+use Rattle.sources.proofs.HeightLaws.{counted, heights-counted, height-listed}
 use Rattle.posts.specs.Heights.{heightAllowed}
 use Rattle.columns.proofs.ColumnHeights.{Held}
-use Rattle.numbering.specs.Items.{given, descriptionOf, numbersOf}
-use Rattle.hosting.specs.Cell.{judgedBytes, bytesTold, bytesOutput}
-use Rattle.hosting.proofs.BytesExactly.{Ready, ready}
-use Rattle.numbering.proofs.ItemNumbers.{in-range, description-back}
+use Rattle.host_items.specs.Items.{itemIn, descriptionOf, numbersOf}
+use Rattle.host_writers.specs.Cell.{judgedBytes, bytesTold, bytesOutput}
+use Rattle.host_writers.proofs.BytesExactly.{Ready, ready}
+use Rattle.host_items.proofs.ItemNumbers.{in-range, description-back}
 use Rattle.dted.specs.Description.{itemsAfter}
 use Rattle.dted.proofs.cells.dted_intake.Reads as intake
 use Rattle.dted.proofs.cells.dted_intake.Kinds as intake-kinds
@@ -60,12 +60,12 @@ module _ (κs : L.Lfts 3) (a : K.Dens κs write-kinds.ps) (r : _) (s : _) (kept 
   all : length heights ≡ postsDue (frameFor (descriptionOf items) .grid)
   all =
       let g = inBytes (now (a .1 .1 .0)) in
-      length-given g ∙ counted g (postsDue (frameFor (descriptionOf items) .grid)) (fine .fine .long)
+      heights-counted g ∙ counted g (postsDue (frameFor (descriptionOf items) .grid)) (fine .fine .long)
 
   held : Held (frameFor (descriptionOf items) .voids) heights
   held i h =
       let g = inBytes (now (a .1 .1 .0)) in
-      ap (heightAllowed (frameFor (descriptionOf items) .voids)) (height-given g i (subst (λ (n : ℕ). i < n) (length-given g) h))
+      ap (heightAllowed (frameFor (descriptionOf items) .voids)) (height-listed g i (subst (λ (n : ℕ). i < n) (heights-counted g) h))
       ∙ fine .fine .held i (subst (λ (n : ℕ). i < n) all h)
 
   -- the output begins with them, and past them is as it was
@@ -81,18 +81,18 @@ module _ (κs : L.Lfts 3) (a : K.Dens κs write-kinds.ps) (r : _) (s : _) (kept 
 
   -- the thirteen numbers come back, each in its item's place
   pub described-back : (κs' : L.Lfts 2) (b : K.Dens κs' describe-kinds.ps) (q : _) (t : _) → now (b .0) ≡ cell → describe.Post κs' b q t
-      → (length (now (t .1 .0)) ≡ 13) × ((i : Item) → given (now (t .1 .0)) i ≡ given items i)
+      → (length (now (t .1 .0)) ≡ 13) × ((i : Item) → itemIn (now (t .1 .0)) i ≡ itemIn items i)
   unfolding numbersOf
   described-back κs' b q t same kept' =
       let back : now (t .1 .0) ≡ numbersOf (descriptionOf items) =
       kept' .1 ∙ ap (λ (l : List ℕ). itemsAfter (described l) (now (b .1 .0))) same
       ∙ ap (λ (x : Described). itemsAfter x (now (b .1 .0))) (restored-description (descriptionOf items) (in-range items (fine .numbers)) heights)
       in
-      (ap length back, λ i. ap (λ (zs : List ℤ). given zs i) back ∙ description-back items (fine .numbers) i)
+      (ap length back, λ i. ap (λ (zs : List ℤ). itemIn zs i) back ∙ description-back items (fine .numbers) i)
 
   pub posts-back : (κs' : L.Lfts 1) (b : K.Dens κs' post-kinds.ps) (q : _) (t : _) → now (b .0) ≡ cell → post.Post κs' b q t
       → b .1 .0 < frameFor (descriptionOf items) .grid .columns → b .1 .1 .0 < frameFor (descriptionOf items) .grid .posts
-      → q ≡ packed (saidOf (heightAt (frameFor (descriptionOf items) .grid .posts) heights (b .1 .0) (b .1 .1 .0)))
+      → q ≡ packed (heightSaid (heightAt (frameFor (descriptionOf items) .grid .posts) heights (b .1 .0) (b .1 .1 .0)))
   posts-back κs' b q t same kept' hc hp =
       kept' ∙ ap (λ (l : List ℕ). packed (lookedUp l (b .1 .0) (b .1 .1 .0))) same
       ∙ ap packed (restored-post (descriptionOf items) (in-range items (fine .numbers)) heights all held (b .1 .0) (b .1 .1 .0) hc hp)

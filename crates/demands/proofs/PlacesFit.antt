@@ -16,8 +16,8 @@ use Rattle.answers.specs.declared.Refusal.{Refusal}
 use Rattle.answers.specs.declared.Refusal.the-variants as because
 use Rattle.answers.specs.declared.Outcome.{Outcome}
 use Rattle.answers.proofs.Injective.{refusal-told, number-ranged}
-use Rattle.packing.specs.Apart.{FitsHeight, Fits}
-use Rattle.packing.specs.Apart as fits
+use Rattle.host_answers.specs.Apart.{FitsHeight, Fits}
+use Rattle.host_answers.specs.Apart as fits
 use Rattle.layout.specs.declared.Grid.{Grid}
 use Rattle.layout.specs.declared.Frame.{Frame}
 use Rattle.layout.specs.Ranges.{Ranged}
@@ -31,31 +31,31 @@ use Rattle.posts.proofs.Readings.{Reads}
 use Rattle.posts.proofs.Readings as reads
 use Rattle.fields.specs.Table.{fieldAt}
 use Rattle.headers.specs.Judged.{judged, factsIn, frameOf, frameIn, Follows}
-use Rattle.headers.specs.declared.Judged.{Judged}
-use Rattle.headers.specs.declared.Judged.the-variants as headers
+use Rattle.headers.specs.declared.JudgedHeaders.{JudgedHeaders}
+use Rattle.headers.specs.declared.JudgedHeaders.the-variants as headers
 use Rattle.headers.proofs.Exactly.{Answer, short, breaks, good, answered, follows-good}
 use Rattle.headers.proofs.FirstFour.{good-facts}
 use Rattle.headers.proofs.TableRows.{row}
 use Rattle.columns.specs.Judged.{judgedColumn, RefusedIn}
-use Rattle.columns.specs.declared.Judged as Columns
-use Rattle.columns.specs.declared.Judged.the-variants as columns
+use Rattle.columns.specs.declared.JudgedColumn.{JudgedColumn}
+use Rattle.columns.specs.declared.JudgedColumn.the-variants as columns
 use Rattle.columns.specs.Column.{wordIn, GoodColumn}
 use Rattle.columns.proofs.Damage.{judged-in}
 use Rattle.cells.specs.Cell.{startOf, columnAt}
-use Rattle.reaching.specs.Lookup.{postReads, readingOf, lookedUp}
-use Rattle.reaching.specs.Reach.{reached}
-use Rattle.reaching.specs.declared.reach.Reached.{Reached}
-use Rattle.reaching.specs.declared.reach.Reached.the-variants as reach
-use Rattle.reaching.proofs.ReachedExactly as exactly
-use Rattle.locating.specs.Position.{nearestColumn, nearestPost, saidAt, readAt, located}
-use Rattle.locating.proofs.PositionExactly as position
+use Rattle.lookup.specs.Lookup.{postReads, readingOf, lookedUp}
+use Rattle.lookup.specs.Reach.{reached}
+use Rattle.lookup.specs.declared.reach.Reached.{Reached}
+use Rattle.lookup.specs.declared.reach.Reached.the-variants as reach
+use Rattle.lookup.proofs.ReachedExactly as exactly
+use Rattle.position.specs.Position.{nearestColumn, nearestPost, saidAt, readAt, located}
+use Rattle.position.proofs.PositionExactly as position
 use Rattle.octets.proofs.JoinedLaws.{part-within}
-use Rattle.sources.specs.Given.{Given}
-use Rattle.streaming.proofs.GivenExactly.{GivenRow, differs, not-held, no-room, fine}
-use Rattle.streaming.proofs.NumberExactly.{NumberRow, level-past, number-past, then-rest}
-use Rattle.editing.specs.Edit.{judgedEdit, editTold}
-use Rattle.editing.proofs.EditExactly as editing
-use Rattle.reading.specs.Intake.{orRest, judgeNext, ended, columnsFrom, takenBy, taken}
+use Rattle.sources.specs.Heights.{Heights}
+use Rattle.column_writer.proofs.PostsExactly.{PostsRow, differs, not-held, no-room, fine}
+use Rattle.column_writer.proofs.NumberExactly.{NumberRow, level-past, number-past, then-rest}
+use Rattle.edit.specs.Edit.{judgedEdit, editTold}
+use Rattle.edit.proofs.EditExactly as editing
+use Rattle.intake.specs.Intake.{orRest, judgeNext, ended, columnsFrom, takenBy, taken}
 
 -- the longest cell: no offset in a file that is judged lies past it
 abbrev pub most : ℕ
@@ -85,7 +85,7 @@ height-fits (pos n) e = omega (arith, leb-true n 9000 (sym (up-in-range n) ∙ e
 height-fits (negsuc n) e = omega (arith, leb-true (suc n) 12000 (sym (down-in-range (suc n)) ∙ e))
 
 -- a refusal of headers has its place in them
-headers-by : (s : List ℕ) (j : Judged) → Answer s j → (r : Refusal) → j ≡ headers.Refused r → placeTold (numbered r) ≤ most
+headers-by : (s : List ℕ) (j : JudgedHeaders) → Answer s j → (r : Refusal) → j ≡ headers.Refused r → placeTold (numbered r) ≤ most
 headers-by s _ (short h) r e = let same : because.Short (length s) ≡ r = cc in subst (λ (x : Refusal). placeTold (numbered x) ≤ most) same (omega arith)
 headers-by s _ (breaks i f) r e =
     let same : because.Field (fieldAt i .0) ≡ r = cc in
@@ -116,7 +116,7 @@ module _ (s : List ℕ) (f : Frame) (in-range : Ranged (f .grid)) where
       (λ e. rw e (small-fits 7 (f .grid .bytes .cell) (lit< tt) (lit< tt) (in-range .cell-high)))
 
   -- a column's refusal, or the rest
-  next-fits : (k : ℕ) → k < f .grid .columns → (x : Columns.Judged)
+  next-fits : (k : ℕ) → k < f .grid .columns → (x : JudgedColumn)
       → judgedColumn (columnAt s (f .grid) k) k (f .grid .posts) (f .voids) (startOf (f .grid) k) ≡ x → (rest : Told) → Fits rest → Fits (orRest x rest)
   next-fits k h columns.Good e rest fit = fit
   next-fits k h (columns.Refused r) e rest fit =
@@ -132,7 +132,7 @@ module _ (s : List ℕ) (f : Frame) (in-range : Ranged (f .grid)) where
       (λ e. rw e (next-fits k here (judgedColumn (columnAt s g k) k (g .posts) (f .voids) (startOf g k)) refl _ (columns-fit (k + 1) n (omega arith))))
       (λ e. rw e (small-fits 3 (startOf g k) (lit< tt) (lit< tt) (omega (arith, end-small g in-range k here))))
 
-intake-by : (s : List ℕ) (x : Judged) → judged s ≡ x → Fits (takenBy s x)
+intake-by : (s : List ℕ) (x : JudgedHeaders) → judged s ≡ x → Fits (takenBy s x)
 intake-by s (headers.Good f) e = columns-fit s (frameOf f) (good-facts s f e .grid) 0 (f .grid .columns) (omega arith)
 intake-by s (headers.Refused r) e = headers-fit s r e
 
@@ -220,12 +220,12 @@ unfolding editTold
 edit-fits s c p z = edit-by s c p z (judgedEdit s c p z) (editing.row s c p z)
 
 -- the writers
-pub given-fits : (posts bytes : ℕ) (voids : Bool) (g : Given) (room : ℕ) → posts ≤ most → bytes ≤ most
-    → (x : Outcome) → GivenRow posts bytes voids g room x → Fits (told act x)
-given-fits posts bytes voids g room hp hb _ (differs e) = small-fits 10 posts (lit< tt) (lit< tt) hp
-given-fits posts bytes voids g room hp hb _ (not-held l n h bad f) = small-fits 11 n (lit< tt) (lit< tt) (omega arith)
-given-fits posts bytes voids g room hp hb _ (no-room l f h) = small-fits 12 bytes (lit< tt) (lit< tt) hb
-given-fits posts bytes voids g room hp hb _ (fine l f h) = fits.done
+pub posts-fits : (posts bytes : ℕ) (voids : Bool) (g : Heights) (room : ℕ) → posts ≤ most → bytes ≤ most
+    → (x : Outcome) → PostsRow posts bytes voids g room x → Fits (told act x)
+posts-fits posts bytes voids g room hp hb _ (differs e) = small-fits 10 posts (lit< tt) (lit< tt) hp
+posts-fits posts bytes voids g room hp hb _ (not-held l n h bad f) = small-fits 11 n (lit< tt) (lit< tt) (omega arith)
+posts-fits posts bytes voids g room hp hb _ (no-room l f h) = small-fits 12 bytes (lit< tt) (lit< tt) hb
+posts-fits posts bytes voids g room hp hb _ (fine l f h) = fits.done
 
 -- of a column, where what is judged after its number fits
 pub number-fits : (level number : ℕ) (Rest : Outcome → Type 0)

@@ -11,8 +11,8 @@ use borrow.Fn.Kinds as K
 use Rattle.answers.specs.Told.{Told, told}
 use Rattle.answers.specs.Told as telling
 use Rattle.answers.proofs.Injective.{told-injective}
-use Rattle.packing.specs.Packed.{packed}
-use Rattle.packing.specs.Apart.{toldIn}
+use Rattle.host_answers.specs.Packed.{packed}
+use Rattle.host_answers.specs.Apart.{toldIn}
 use Rattle.layout.specs.Grid.{headerBytes}
 use Rattle.posts.specs.Words.{postOf}
 use Rattle.posts.specs.declared.Post.{Post}
@@ -22,19 +22,19 @@ use Rattle.headers.proofs.Exactly.{follows-good}
 use Rattle.columns.specs.Column.{wordIn}
 use Rattle.cells.specs.Cell.{columnAt, Cell}
 use Rattle.cells.proofs.ColumnPlaces.{column-whole}
-use Rattle.reading.proofs.CellExactly.{post-reads}
-use Rattle.reaching.specs.Lookup.{postReads, lookedUp}
-use Rattle.reaching.proofs.LookupLaws.{post-found, same-post}
-use Rattle.reaching.proofs.ReachedExactly.{endIn, good, given}
-use Rattle.locating.specs.Position.{nearest, saidAt, readAt, located}
-use Rattle.locating.specs.declared.position.Along.the-variants.{On}
-use Rattle.locating.proofs.Nearest.{AsNear}
-use Rattle.locating.proofs.PositionExactly.{northOf, eastOf, nearest-answered}
+use Rattle.intake.proofs.CellExactly.{post-reads}
+use Rattle.lookup.specs.Lookup.{postReads, lookedUp}
+use Rattle.lookup.proofs.LookupLaws.{post-found, same-post}
+use Rattle.lookup.proofs.ReachedExactly.{endIn, good, given}
+use Rattle.position.specs.Position.{nearest, saidAt, readAt, located}
+use Rattle.position.specs.declared.Along.the-variants.{On}
+use Rattle.position.proofs.NearestPost.{AsNear}
+use Rattle.position.proofs.PositionExactly.{northOf, eastOf, nearest-answered}
 use Rattle.cells.proofs.MadeCells.{cell-facts}
-use Rattle.reaching.proofs.lookup.look_up.Reads as look-up
-use Rattle.reaching.proofs.lookup.look_up.Kinds as look-up-kinds
-use Rattle.locating.proofs.position.locate.Reads as locate
-use Rattle.locating.proofs.position.locate.Kinds as locate-kinds
+use Rattle.lookup.proofs.look_up.Reads as look-up
+use Rattle.lookup.proofs.look_up.Kinds as look-up-kinds
+use Rattle.position.proofs.locate.Reads as locate
+use Rattle.position.proofs.locate.Kinds as locate-kinds
 use Rattle.dted.proofs.cells.dted_post.Reads as host-post
 use Rattle.dted.proofs.cells.dted_post.Kinds as host-post-kinds
 use Rattle.dted.proofs.cells.dted_position.Reads as host-position

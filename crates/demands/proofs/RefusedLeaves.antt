@@ -11,33 +11,33 @@ use borrow.Fn.Kinds as K
 use Rattle.answers.specs.Told.{Told, numberTold, told, act}
 use Rattle.answers.specs.declared.Outcome.{Outcome}
 use Rattle.answers.specs.declared.Outcome.the-variants.{Done, Refused}
-use Rattle.packing.specs.Packed.{packed}
-use Rattle.packing.specs.Apart.{numberIn, Fits}
-use Rattle.packing.proofs.TakenApart.{number-told}
-use Rattle.describing.specs.Described.{described}
-use Rattle.describing.specs.declared.Described.{Described}
-use Rattle.describing.specs.declared.Described.the-variants as describing
-use Rattle.streaming.specs.Given.{outputAfter}
-use Rattle.streaming.specs.Column.{judgedColumn, givenTold, givenOutput, columnTold, columnOutput}
+use Rattle.host_answers.specs.Packed.{packed}
+use Rattle.host_answers.specs.Apart.{numberIn, Fits}
+use Rattle.host_answers.proofs.TakenApart.{number-told}
+use Rattle.description.specs.Described.{described}
+use Rattle.description.specs.declared.Described.{Described}
+use Rattle.description.specs.declared.Described.the-variants as description
+use Rattle.column_writer.specs.Judged.{outputAfter}
+use Rattle.column_writer.specs.Column.{judgedColumnWrite, columnToldFrom, columnOutputFrom, columnTold, columnOutput}
 use Rattle.columns.specs.Column.{columnOf}
-use Rattle.writing.specs.Cell.{judgedCell, cellOf, cellTold, cellOutput}
-use Rattle.sources.specs.Given.{numbers, inBytes, heightsInBytes}
-use Rattle.numbering.specs.Items.{descriptionOf}
-use Rattle.hosting.specs.Cell.{judgedBytes, bytesTold, bytesOutput}
-use Rattle.hosting.specs.Column.{columnBytesTold, columnBytesOutput}
-use Rattle.editing.specs.Edit.{judgedEdit, editTold, edited}
-use Rattle.editing.proofs.EditExactly.{refused-leaves}
+use Rattle.cell_writer.specs.Cell.{judgedCellWrite, cellOf, cellTold, cellOutput}
+use Rattle.sources.specs.Heights.{numbers, inBytes, heightsInBytes}
+use Rattle.host_items.specs.Items.{descriptionOf}
+use Rattle.host_writers.specs.Cell.{judgedBytes, bytesTold, bytesOutput}
+use Rattle.host_writers.specs.Column.{columnBytesTold, columnBytesOutput}
+use Rattle.edit.specs.Edit.{judgedEdit, editTold, edited}
+use Rattle.edit.proofs.EditExactly.{refused-leaves}
 use Rattle.dted.specs.Description.{saidOfDescribed, itemsAfter}
-use Rattle.editing.proofs.edit.edit.Reads as edit
-use Rattle.editing.proofs.edit.edit.Kinds as edit-kinds
-use Rattle.writing.proofs.cell.write.Reads as write
-use Rattle.writing.proofs.cell.write.Kinds as write-kinds
-use Rattle.streaming.proofs.column.write.Reads as write-column
-use Rattle.streaming.proofs.column.write.Kinds as write-column-kinds
-use Rattle.hosting.proofs.cell.write.Reads as write-bytes
-use Rattle.hosting.proofs.cell.write.Kinds as write-bytes-kinds
-use Rattle.hosting.proofs.column.write.Reads as write-column-bytes
-use Rattle.hosting.proofs.column.write.Kinds as write-column-bytes-kinds
+use Rattle.edit.proofs.edit.Reads as edit
+use Rattle.edit.proofs.edit.Kinds as edit-kinds
+use Rattle.cell_writer.proofs.write.Reads as write
+use Rattle.cell_writer.proofs.write.Kinds as write-kinds
+use Rattle.column_writer.proofs.write.Reads as write-column
+use Rattle.column_writer.proofs.write.Kinds as write-column-kinds
+use Rattle.host_writers.proofs.cell.write.Reads as write-bytes
+use Rattle.host_writers.proofs.cell.write.Kinds as write-bytes-kinds
+use Rattle.host_writers.proofs.column.write.Reads as write-column-bytes
+use Rattle.host_writers.proofs.column.write.Kinds as write-column-bytes-kinds
 use Rattle.dted.proofs.cells.dted_edit.Reads as host-edit
 use Rattle.dted.proofs.cells.dted_edit.Kinds as host-edit-kinds
 use Rattle.dted.proofs.descriptions.dted_describe.Reads as host-describe
@@ -71,8 +71,8 @@ edit-by l c p z Done e some = absurd (omega arith)
 edit-by l c p z (Refused r) e some = refused-leaves l c p z r e
 
 items-leaves : (x : Described) (items : List ℤ) → Leaves (saidOfDescribed x) items (itemsAfter x items)
-items-leaves (describing.As d) items some = absurd (omega arith)
-items-leaves (describing.Refused r) items some = refl
+items-leaves (description.As d) items some = absurd (omega arith)
+items-leaves (description.Refused r) items some = refl
 
 edit-leaves : (l : List ℕ) (c p : ℕ) (z : ℤ) → Leaves (editTold l c p z) l (edited l c p z)
 unfolding editTold
@@ -83,8 +83,8 @@ unfolding bytesTold bytesOutput
 bytes-leaves items grid out = output-leaves (judgedBytes items grid (length out)) (cellOf (descriptionOf items) (heightsInBytes grid)) out
 
 column-bytes-leaves : (level number : ℕ) (posts out : List ℕ) → Leaves (columnBytesTold level number posts out) out (columnBytesOutput level number posts out)
-unfolding givenTold givenOutput
-column-bytes-leaves level number posts out = output-leaves (judgedColumn level number (inBytes posts) (length out)) (columnOf number (heightsInBytes posts)) out
+unfolding columnToldFrom columnOutputFrom
+column-bytes-leaves level number posts out = output-leaves (judgedColumnWrite level number (inBytes posts) (length out)) (columnOf number (heightsInBytes posts)) out
 
 -- the inner calls
 pub edit-refused : (κs : L.Lfts 1) (a : K.Dens κs edit-kinds.ps) (r : _) (s : _) → edit.Post κs a r s
@@ -98,7 +98,7 @@ write-refused κs a r s kept =
     let d = a .1 .0 in
     let zs = now (a .1 .1 .0) in
     let out = now (a .0) in
-    told-so _ (told act r) _ _ _ (kept .0) (kept .1) (output-leaves (judgedCell d (numbers zs) (length out)) (cellOf d zs) out)
+    told-so _ (told act r) _ _ _ (kept .0) (kept .1) (output-leaves (judgedCellWrite d (numbers zs) (length out)) (cellOf d zs) out)
 
 pub write-column-refused : (κs : L.Lfts 2) (a : K.Dens κs write-column-kinds.ps) (r : _) (s : _) → write-column.Post κs a r s
     → 0 < numberTold (told act r) → now (s .0) ≡ now (a .0)
@@ -107,7 +107,7 @@ write-column-refused κs a r s kept =
     let k = a .1 .1 .0 in
     let zs = now (a .1 .1 .1 .0) in
     let out = now (a .0) in
-    told-so _ (told act r) _ _ _ (kept .0) (kept .1) (output-leaves (judgedColumn (a .1 .0) k (numbers zs) (length out)) (columnOf k zs) out)
+    told-so _ (told act r) _ _ _ (kept .0) (kept .1) (output-leaves (judgedColumnWrite (a .1 .0) k (numbers zs) (length out)) (columnOf k zs) out)
 
 pub write-bytes-refused : (κs : L.Lfts 3) (a : K.Dens κs write-bytes-kinds.ps) (r : _) (s : _) → write-bytes.Post κs a r s
     → 0 < numberTold (told act r) → now (s .0) ≡ now (a .0)

@@ -13,18 +13,18 @@ use Rattle.answers.specs.Told as telling
 use Rattle.answers.proofs.Injective.{told-injective}
 use Rattle.layout.specs.Grid.{headerBytes}
 use Rattle.headers.specs.Judged.{factsIn}
-use Rattle.reading.specs.Intake.{taken}
-use Rattle.reading.proofs.intake.intake.Reads as intake
-use Rattle.reading.proofs.intake.intake.Kinds as intake-kinds
-use Rattle.stepping.specs.Steps.{Fed, firstPiece, laterPieces}
-use Rattle.stepping.specs.declared.steps.Phase.{Phase}
-use Rattle.stepping.specs.Turns.{isFinal}
-use Rattle.stepping.proofs.StepsWhole.{steps-whole}
-use Rattle.stepping.proofs.StoppedEarly as early
-use Rattle.stepping.proofs.steps.Steps.new.Reads as new
-use Rattle.stepping.proofs.steps.Steps.new.Kinds as new-kinds
-use Rattle.stepping.proofs.steps.Steps.step.Reads as step
-use Rattle.stepping.proofs.steps.Steps.step.Kinds as step-kinds
+use Rattle.intake.specs.Intake.{taken}
+use Rattle.intake.proofs.intake.Reads as intake
+use Rattle.intake.proofs.intake.Kinds as intake-kinds
+use Rattle.steps.specs.Steps.{Fed, firstPiece, laterPieces}
+use Rattle.steps.specs.declared.Phase.{Phase}
+use Rattle.steps.specs.Turns.{isFinal}
+use Rattle.steps.proofs.StepsWhole.{steps-whole}
+use Rattle.steps.proofs.StoppedEarly as early
+use Rattle.steps.proofs.Steps.new.Reads as new
+use Rattle.steps.proofs.Steps.new.Kinds as new-kinds
+use Rattle.steps.proofs.Steps.step.Reads as step
+use Rattle.steps.proofs.Steps.step.Kinds as step-kinds
 
 -- calls of `step`, each of which keeps its promise and is handed the state that the one before gave back, take these pieces; the last answers w
 pub data Steps : Phase → List ℕ → List (List ℕ) → Verdict → Type 1 where

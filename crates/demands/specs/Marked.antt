@@ -13,11 +13,11 @@ use Rattle.posts.specs.Words.{wordAllowed, postOf}
 use Rattle.posts.specs.declared.Post.{Post}
 use Rattle.posts.specs.declared.Post.the-variants.{Height, Void}
 use Rattle.layout.specs.Levels.{degree}
-use Rattle.reaching.specs.declared.reach.Spot.{Spot}
-use Rattle.editing.specs.Edit.{storedIn}
-use Rattle.locating.specs.Position.{southWest, nearestColumn, nearestPost}
-use Rattle.locating.specs.declared.position.Within.{Within}
-use Rattle.locating.specs.declared.position.Within.the-variants as within
+use Rattle.lookup.specs.declared.reach.Spot.{Spot}
+use Rattle.edit.specs.Edit.{storedIn}
+use Rattle.position.specs.Position.{southWest, nearestColumn, nearestPost}
+use Rattle.position.specs.declared.Within.{Within}
+use Rattle.position.specs.declared.Within.the-variants as within
 use Rattle.dted.specs.Grid.{fromSouth}
 
 -- a whole-degree latitude, north or south
@@ -31,21 +31,21 @@ south degrees = negℤ (pos degrees)
 abbrev pub edgeAt : ℤ → ℕ
 edgeAt latitude = edgeOf (fromSouth latitude)
 
--- what an example gives
-pub data Given : Type 0 where
+-- what an example is about
+pub data Input : Type 0 where
   -- the longitude interval, the columns, the cell's bytes of a level and an origin latitude
-  interval : ℕ → ℤ → Given
-  columns : ℕ → ℤ → Given
-  bytes : ℕ → ℤ → Given
+  interval : ℕ → ℤ → Input
+  columns : ℕ → ℤ → Input
+  bytes : ℕ → ℤ → Input
   -- a post word, in a cell that may hold voids
-  word : ℕ → Given
+  word : ℕ → Input
   -- the checksum after these bytes, and of the column with this number and these heights
-  checksum : List ℕ → Given
-  column : ℕ → List ℤ → Given
+  checksum : List ℕ → Input
+  column : ℕ → List ℤ → Input
   -- a column of one post, these bytes and their checksum, whose post is edited to this height: its word then, and its checksum
-  edited : List ℕ → ℤ → Given
+  edited : List ℕ → ℤ → Input
   -- the post nearest a position, in tenths north and east of an origin so many degrees north and east
-  nearest : ℕ → ℕ → ℕ → ℕ → ℕ → Given
+  nearest : ℕ → ℕ → ℕ → ℕ → ℕ → Input
 
 -- what it is
 pub data Is : Type 0 where
@@ -79,7 +79,7 @@ abbrev pub onlyPost : Spot
 onlyPost = record { start = 0; posts = 1; voids = false; word = 0 }
 
 -- what the definitions make of what is given
-unfoldable pub made : Given → Is
+unfoldable pub made : Input → Is
 made (interval level latitude) = number (longitudeInterval level (edgeAt latitude))
 made (columns level latitude) = number (columnsOf level (edgeAt latitude))
 made (bytes level latitude) = number (cellBytes level (edgeAt latitude))
@@ -93,11 +93,11 @@ made (word w) = pick (wordAllowed true w) (postIs (postOf w)) refused
 -- a row of the table
 pub record Example : Type 0 where
   pub mark : ℕ
-  pub given : Given
+  pub input : Input
   pub is : Is
 
-abbrev pub m : ℕ → Given → Is → Example
-m mark given is = record { mark = mark; given = given; is = is }
+abbrev pub m : ℕ → Input → Is → Example
+m mark input is = record { mark = mark; input = input; is = is }
 
 -- the bytes of M9
 abbrev pub m9 : List ℕ
@@ -126,8 +126,8 @@ table =
     ∷ []
 
 -- what is given and what it is, row by row
-abbrev pub givens : List Given
-givens = map (λ (e : Example). e .given) table
+abbrev pub inputs : List Input
+inputs = map (λ (e : Example). e .input) table
 
 abbrev pub answers : List Is
 answers = map (λ (e : Example). e .is) table

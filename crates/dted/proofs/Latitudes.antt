@@ -11,8 +11,8 @@ use Rattle.octets.proofs.ChoiceLaws.{by-test, by-order, clash}
 use Rattle.layout.specs.Grid.{laid}
 use Rattle.layout.specs.Zones.{nearEdge, edgeOf}
 use Rattle.layout.proofs.NearEdges.{edge-is-near}
-use Rattle.numbering.specs.Items.{counted}
-use Rattle.numbering.proofs.NumberRanges.{angled}
+use Rattle.host_items.specs.Items.{counted}
+use Rattle.host_items.proofs.NumberRanges.{angled}
 use Rattle.dted.specs.Grid.{fromSouth}
 
 -- whether a cell begins at this latitude

@@ -2,9 +2,9 @@
 use mathlib.Core.List.{List}
 use lib.IntN.{ℤ}
 use Rattle.answers.specs.Told.{Told, done, numbered}
-use Rattle.describing.specs.declared.Described.{Described}
-use Rattle.describing.specs.declared.Described.the-variants.{As, Refused}
-use Rattle.numbering.specs.Items.{numbersOf}
+use Rattle.description.specs.declared.Described.{Described}
+use Rattle.description.specs.declared.Described.the-variants.{As, Refused}
+use Rattle.host_items.specs.Items.{numbersOf}
 
 abbrev pub saidOfDescribed : Described → Told
 saidOfDescribed (As d) = done

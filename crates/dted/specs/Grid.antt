@@ -8,7 +8,7 @@ use Rattle.layout.specs.Zones.{nearEdge}
 use Rattle.layout.specs.Grid.{laid}
 use Rattle.layout.specs.declared.Laid.{Laid}
 use Rattle.layout.specs.declared.Laid.the-variants.{Out, NoLevel, NoZone}
-use Rattle.numbering.specs.Items.{counted}
+use Rattle.host_items.specs.Items.{counted}
 
 abbrev pub saidOfLaid : Laid → Told
 saidOfLaid (Out g) = accepted (g .level) (g .columns) (g .posts)

@@ -1,30 +1,30 @@
 // The calls on a cell.
 ghost use mathlib.Core.Path.{_≡_};
-ghost use Rattle.packing.specs.Packed.{packed};
-ghost use Rattle.reading.specs.Intake.{taken};
-ghost use Rattle.reaching.specs.Lookup.{lookedUp};
-ghost use Rattle.locating.specs.Position.{located};
-ghost use Rattle.editing.specs.Edit.{editTold, edited};
+ghost use Rattle.host_answers.specs.Packed.{packed};
+ghost use Rattle.intake.specs.Intake.{taken};
+ghost use Rattle.lookup.specs.Lookup.{lookedUp};
+ghost use Rattle.position.specs.Position.{located};
+ghost use Rattle.edit.specs.Edit.{editTold, edited};
 
 #[no_mangle]
 pub extern "C" fn dted_intake(cell: &[u8]) -> u64
     ensures { λ r. ⌜ r ≡ packed (taken (now (cell .entry))) ⌝ }
 {
-    packing::verdict(reading::intake::intake(cell))
+    host_answers::verdict(intake::intake(cell))
 }
 
 #[no_mangle]
 pub extern "C" fn dted_post(cell: &[u8], column: u64, post: u64) -> u64
     ensures { λ r. ⌜ r ≡ packed (lookedUp (now (cell .entry)) column post) ⌝ }
 {
-    packing::reading(reaching::lookup::look_up(cell, column as usize, post as usize))
+    host_answers::reading(lookup::look_up(cell, column as usize, post as usize))
 }
 
 #[no_mangle]
 pub extern "C" fn dted_position(cell: &[u8], latitude: i64, longitude: i64) -> u64
     ensures { λ r. ⌜ r ≡ packed (located (now (cell .entry)) latitude longitude) ⌝ }
 {
-    packing::located(locating::position::locate(cell, latitude, longitude))
+    host_answers::located(position::locate(cell, latitude, longitude))
 }
 
 #[no_mangle]
@@ -32,6 +32,6 @@ pub extern "C" fn dted_edit(cell: &mut [u8], column: u64, post: u64, height: i64
     ensures { λ r. ⌜ r ≡ packed (editTold (now (cell .entry)) column post height) ⌝ }
     ensures { λ _. ⌜ now (cell .exit) ≡ edited (now (cell .entry)) column post height ⌝ }
 {
-    let answer = editing::edit::edit(cell, column as usize, post as usize, height);
-    packing::outcome(answer)
+    let answer = edit::edit(cell, column as usize, post as usize, height);
+    host_answers::outcome(answer)
 }

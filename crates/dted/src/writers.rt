@@ -1,17 +1,17 @@
 // The writers.
 ghost use mathlib.Core.Path.{_≡_};
-ghost use Rattle.packing.specs.Packed.{packed};
-ghost use Rattle.hosting.specs.Cell.{bytesTold, bytesOutput};
-ghost use Rattle.hosting.specs.Column.{columnBytesTold, columnBytesOutput};
-use numbering::items::ITEMS;
+ghost use Rattle.host_answers.specs.Packed.{packed};
+ghost use Rattle.host_writers.specs.Cell.{bytesTold, bytesOutput};
+ghost use Rattle.host_writers.specs.Column.{columnBytesTold, columnBytesOutput};
+use host_items::items::ITEMS;
 
 #[no_mangle]
 pub extern "C" fn dted_write(out: &mut [u8], items: &[i64; ITEMS], grid: &[u8]) -> u64
     ensures { λ r. ⌜ r ≡ packed (bytesTold (now (items .entry)) (now (grid .entry)) (now (out .entry))) ⌝ }
     ensures { λ _. ⌜ now (out .exit) ≡ bytesOutput (now (items .entry)) (now (grid .entry)) (now (out .entry)) ⌝ }
 {
-    let answer = hosting::cell::write(out, items, grid);
-    packing::outcome(answer)
+    let answer = host_writers::cell::write(out, items, grid);
+    host_answers::outcome(answer)
 }
 
 #[no_mangle]
@@ -19,6 +19,6 @@ pub extern "C" fn dted_write_column(out: &mut [u8], level: u64, number: u64, pos
     ensures { λ r. ⌜ r ≡ packed (columnBytesTold level number (now (posts .entry)) (now (out .entry))) ⌝ }
     ensures { λ _. ⌜ now (out .exit) ≡ columnBytesOutput level number (now (posts .entry)) (now (out .entry)) ⌝ }
 {
-    let answer = hosting::column::write(out, level as usize, number as usize, posts);
-    packing::outcome(answer)
+    let answer = host_writers::column::write(out, level as usize, number as usize, posts);
+    host_answers::outcome(answer)
 }

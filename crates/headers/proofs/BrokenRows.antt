@@ -16,7 +16,7 @@ use Rattle.octets.proofs.ChoiceLaws.{by-test, by-order}
 use Rattle.fields.specs.Table.{uhl, fields, fieldAt}
 use Rattle.headers.specs.Judged.{keeps, broken, judgedBy}
 use Rattle.due.specs.declared.Basis.{Basis}
-use Rattle.headers.specs.declared.Judged.the-variants.{Refused}
+use Rattle.headers.specs.declared.JudgedHeaders.the-variants.{Refused}
 use Rattle.fields.specs.declared.Kind.the-variants.{Item}
 use Rattle.fields.specs.declared.Item.the-variants.{Partial}
 

@@ -14,8 +14,8 @@ use Rattle.headers.specs.Basis.{basisIn}
 use Rattle.fields.specs.Table.{fieldAt}
 use Rattle.headers.specs.Judged.{keeps, broken, factsIn, judgedBy, judged, Follows}
 use Rattle.headers.specs.declared.Facts.{Facts}
-use Rattle.headers.specs.declared.Judged.{Judged}
-use Rattle.headers.specs.declared.Judged.the-variants.{Good, Refused}
+use Rattle.headers.specs.declared.JudgedHeaders.{JudgedHeaders}
+use Rattle.headers.specs.declared.JudgedHeaders.the-variants.{Good, Refused}
 use Rattle.headers.proofs.BrokenRows.{firstIn, Found, found, judged-part}
 
 -- row i is the first whose field breaks its rule
@@ -26,7 +26,7 @@ pub record First (s : List ℕ) (i : ℕ) : Type 0 where
   pub kept : (j : ℕ) → j < i → keeps s (basisIn s) (fieldAt j) ≡ true
 
 -- the answers that there are
-pub data Answer (s : List ℕ) : Judged → Type 0 where
+pub data Answer (s : List ℕ) : JudgedHeaders → Type 0 where
   short : length s < 3428 → Answer s (Refused (because.Short (length s)))
   breaks : (i : ℕ) → First s i → Answer s (Refused (broken s (basisIn s) (fieldAt i)))
   good : Follows s → Answer s (Good (factsIn s))
@@ -85,7 +85,7 @@ module _ (s : List ℕ) where
 never : _≡_ {A = ℕ} 0 1 → ⊥
 never e = omega arith
 
-when-good : (s : List ℕ) (f : Facts) (j : Judged) → Answer s j → j ≡ Good f → Follows s × (f ≡ factsIn s)
+when-good : (s : List ℕ) (f : Facts) (j : JudgedHeaders) → Answer s j → j ≡ Good f → Follows s × (f ≡ factsIn s)
 when-good s f j (short h) e = absurd (never (cc))
 when-good s f j (breaks i h) e = absurd (never (cc))
 when-good s f j (good h) e = (h, cc)
@@ -99,7 +99,7 @@ pub record FirstAt (s : List ℕ) (place : ℕ) : Type 0 where
   pub first : First s row
   pub at : fieldAt row .0 ≡ place
 
-when-field : (s : List ℕ) (p : ℕ) (j : Judged) → Answer s j → j ≡ Refused (because.Field p) → FirstAt s p
+when-field : (s : List ℕ) (p : ℕ) (j : JudgedHeaders) → Answer s j → j ≡ Refused (because.Field p) → FirstAt s p
 when-field s p j (short h) e = absurd (never (cc))
 when-field s p j (breaks i h) e = record { row = i; first = h; at = cc }
 when-field s p j (good h) e = absurd (never (cc))
@@ -107,7 +107,7 @@ when-field s p j (good h) e = absurd (never (cc))
 pub broken-first : (s : List ℕ) (p : ℕ) → judged s ≡ Refused (because.Field p) → FirstAt s p
 broken-first s p e = when-field s p (judged s) (answered s) e
 
-when-short : (s : List ℕ) (n : ℕ) (j : Judged) → Answer s j → j ≡ Refused (because.Short n) → (length s < 3428) × (n ≡ length s)
+when-short : (s : List ℕ) (n : ℕ) (j : JudgedHeaders) → Answer s j → j ≡ Refused (because.Short n) → (length s < 3428) × (n ≡ length s)
 when-short s n j (short h) e = (h, cc)
 when-short s n j (breaks i h) e = absurd (never (cc))
 when-short s n j (good h) e = absurd (never (cc))

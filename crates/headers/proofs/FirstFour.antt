@@ -26,7 +26,7 @@ use Rattle.headers.specs.Judged.{keeps, factsIn, judged, Follows}
 use Rattle.angles.specs.declared.Axis.{Axis}
 use Rattle.due.specs.declared.Basis.{Basis}
 use Rattle.headers.specs.declared.Facts.{Facts}
-use Rattle.headers.specs.declared.Judged.the-variants.{Good}
+use Rattle.headers.specs.declared.JudgedHeaders.the-variants.{Good}
 use Rattle.layout.proofs.NearEdges.{edge-below}
 use Rattle.headers.proofs.Exactly.{good-follows}
 

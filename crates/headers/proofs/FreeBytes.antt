@@ -19,7 +19,7 @@ use Rattle.fields.specs.declared.Item.the-variants.{Level, Latitude, Longitude,
 use Rattle.headers.specs.Judged.{keeps, broken, factsIn, judged}
 use Rattle.angles.specs.declared.Axis.{Axis}
 use Rattle.due.specs.declared.Basis.{Basis}
-use Rattle.headers.specs.declared.Judged.the-variants.{Good, Refused}
+use Rattle.headers.specs.declared.JudgedHeaders.the-variants.{Good, Refused}
 use Rattle.headers.proofs.BrokenRows.{turn, firstIn, found-same}
 use Rattle.headers.proofs.Exactly.{judged-by-row}
 

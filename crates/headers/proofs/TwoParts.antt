@@ -12,7 +12,7 @@ use Rattle.headers.specs.Basis.{basisIn}
 use Rattle.fields.specs.Table.{fields, fieldAt}
 use Rattle.headers.specs.Judged.{broken, factsIn, judgedBy, judged}
 use Rattle.due.specs.declared.Basis.{Basis}
-use Rattle.headers.specs.declared.Judged.the-variants.{Good, Refused}
+use Rattle.headers.specs.declared.JudgedHeaders.the-variants.{Good, Refused}
 use Rattle.headers.proofs.BrokenRows.{turn, firstIn, Found, found, judged-part, found-same}
 use Rattle.headers.proofs.FirstFour.{nothing-due, Fixed, fixed}
 

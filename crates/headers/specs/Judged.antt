@@ -17,8 +17,8 @@ use Rattle.headers.specs.Basis.{basisIn}
 use Rattle.rules.specs.Rules.{holds}
 use Rattle.due.specs.declared.Basis.{Basis}
 use Rattle.headers.specs.declared.Facts.{Facts}
-use Rattle.headers.specs.declared.Judged.{Judged}
-use Rattle.headers.specs.declared.Judged.the-variants.{Good, Refused}
+use Rattle.headers.specs.declared.JudgedHeaders.{JudgedHeaders}
+use Rattle.headers.specs.declared.JudgedHeaders.the-variants.{Good, Refused}
 use Rattle.fields.specs.declared.Field.{Field}
 
 -- a field keeps its rule
@@ -39,11 +39,11 @@ factsIn s = record {
 }
 
 -- the first field that breaks its rule
-unfoldable pub judgedBy : List ℕ → Basis → List Field → Judged
+unfoldable pub judgedBy : List ℕ → Basis → List Field → JudgedHeaders
 judgedBy s b [] = Good (factsIn s)
 judgedBy s b (f ∷ fs) = pick (keeps s b f) (judgedBy s b fs) (Refused (broken s b f))
 
-unfoldable pub judged : List ℕ → Judged
+unfoldable pub judged : List ℕ → JudgedHeaders
 judged s = pick (ltb (length s) headerBytes) (Refused (because.Short (length s))) (judgedBy s (basisIn s) fields)
 
 -- the headers follow every rule

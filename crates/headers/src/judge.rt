@@ -8,7 +8,7 @@ ghost use Rattle.headers.specs.Basis.{basisIn};
 ghost use Rattle.headers.specs.Judged as by;
 ghost use Rattle.headers.specs.Asked.{RowsToJudge, LatitudeInRange};
 use crate::Facts;
-use crate::Judged;
+use crate::JudgedHeaders;
 use crate::readings::level_at;
 use crate::readings::origin;
 use angles::EASTWARD;
@@ -88,23 +88,23 @@ fn basis_in(s: &[u8]) -> Basis
 }
 
 // The facts of good headers, or the refusal of any bytes that do not begin with such.
-pub fn judge(s: &[u8]) -> Judged
+pub fn judge(s: &[u8]) -> JudgedHeaders
     ensures { λ r. ⌜ r ≡ by.judged (now (s .entry)) ⌝ }
 {
     if s.len() < HEADER_BYTES {
-        return Judged::Refused(Refusal::Short(s.len()));
+        return JudgedHeaders::Refused(Refusal::Short(s.len()));
     }
     let early = first_broken(s, NOTHING, 0, FIRST);
     if early < FIRST {
-        return Judged::Refused(broken(s, NOTHING, fields::row(early)));
+        return JudgedHeaders::Refused(broken(s, NOTHING, fields::row(early)));
     }
     let basis = basis_in(s);
     let row = first_broken(s, basis, FIRST, FIELDS);
     if row < FIELDS {
-        return Judged::Refused(broken(s, basis, fields::row(row)));
+        return JudgedHeaders::Refused(broken(s, basis, fields::row(row)));
     }
     let grid = basis.grid;
-    Judged::Good(Facts {
+    JudgedHeaders::Good(Facts {
         grid,
         latitude: basis.latitude,
         longitude: basis.longitude,

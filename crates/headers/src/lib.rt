@@ -13,7 +13,7 @@ pub struct Facts {
     pub partial: usize,
 }
 
-pub enum Judged {
+pub enum JudgedHeaders {
     Good(Facts),
     Refused(Refusal),
 }

@@ -1,2 +1,3 @@
--- What the program hands out.
-pub mod Found
+-- What intake answers of any bytes.
+pub mod Intake
+pub mod Asked

@@ -1,3 +1,3 @@
 -- The laws of heights that are given.
 pub mod TwosWords
-pub mod GivenLaws
+pub mod HeightLaws

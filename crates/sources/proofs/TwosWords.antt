@@ -11,7 +11,7 @@ use mir.Facts.{toZ-pos}
 use borrow.Author.Tests.{lt-ltb, le-ltb, leb-true}
 use Rattle.octets.specs.Ranges.{between}
 use Rattle.octets.proofs.ChoiceLaws.{both-true}
-use Rattle.sources.specs.Given.{twosOf, twosWord}
+use Rattle.sources.specs.Heights.{twosOf, twosWord}
 
 -- a word below the sign bit is itself; any other, as far below -1 as it lies below FFFF hex
 twos-low : (w : ℕ) → w < 0x8000 → twosOf w ≡ pos w

@@ -1,2 +1,2 @@
--- Heights as writers are given them.
-pub mod Given
+-- Heights, from either source.
+pub mod Heights

@@ -2,7 +2,7 @@
 // every source.
 ghost use mathlib.Core.Path.{_≡_};
 ghost use Prim.Native.Nat.{_<_};
-ghost use Rattle.sources.specs.Given.{twosOf, given, countOf, nthHeight, counts};
+ghost use Rattle.sources.specs.Heights.{twosOf, heightsFrom, countOf, nthHeight, counts};
 use octets::choices::both;
 use octets::numbers::be16;
 
@@ -26,8 +26,8 @@ fn twos(word: u16) -> i16
 
 // Height i of those that are given.
 pub fn height_at(source: Source, numbers: &[i16], bytes: &[u8], i: usize) -> i16
-    requires { ⌜ i < countOf (given source (now numbers) (now bytes)) ⌝ }
-    ensures { λ r. ⌜ r ≡ nthHeight (given source (now (numbers .entry)) (now (bytes .entry))) i ⌝ }
+    requires { ⌜ i < countOf (heightsFrom source (now numbers) (now bytes)) ⌝ }
+    ensures { λ r. ⌜ r ≡ nthHeight (heightsFrom source (now (numbers .entry)) (now (bytes .entry))) i ⌝ }
 {
     match source {
         Source::Numbers => numbers[i],
@@ -36,8 +36,8 @@ pub fn height_at(source: Source, numbers: &[i16], bytes: &[u8], i: usize) -> i16
 }
 
 // Whether so many heights are given, and not a byte beside them. Halved, no count can wrap.
-pub fn are_given(source: Source, numbers: &[i16], bytes: &[u8], count: usize) -> bool
-    ensures { λ r. ⌜ r ≡ counts (given source (now (numbers .entry)) (now (bytes .entry))) count ⌝ }
+pub fn count_is(source: Source, numbers: &[i16], bytes: &[u8], count: usize) -> bool
+    ensures { λ r. ⌜ r ≡ counts (heightsFrom source (now (numbers .entry)) (now (bytes .entry))) count ⌝ }
 {
     match source {
         Source::Numbers => numbers.len() == count,

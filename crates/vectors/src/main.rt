@@ -1,9 +1,9 @@
 // The examples that are run, not marked: whole cells streamed from the column writer, intake of the cell on standard input, changed in known ways, and the writer over heights.
 ghost use Prim.Native.Nat.{_<_};
-use describing::Accuracies;
-use describing::Accuracy;
-use describing::Datum;
-use describing::Description;
+use description::Accuracies;
+use description::Accuracy;
+use description::Datum;
+use description::Description;
 use layout::HEADER_BYTES;
 
 mod said;
@@ -34,7 +34,7 @@ fn print_streamed(level: usize)
 // Intake of the first n bytes.
 fn judge(cell: &[u8], n: usize) {
     if n <= cell.len() {
-        printing::verdict(OUTPUT, reading::intake::intake(&cell[..n]));
+        printing::verdict(OUTPUT, intake::intake(&cell[..n]));
     }
 }
 
@@ -73,9 +73,9 @@ fn description(level: usize, longitude: usize, partial: usize) -> Description {
 // Headers of this description over those of the cell, where its items are in range.
 fn put_headers(cell: &mut [u8], d: Description) {
     if HEADER_BYTES <= cell.len() {
-        if describing::items::bad_item(d) == 0 {
-            let facts = describing::facts::facts_for(d);
-            composing::write::put_headers(cell, d, facts.grid);
+        if description::items::bad_item(d) == 0 {
+            let facts = description::facts::facts_for(d);
+            header_writer::write::put_headers(cell, d, facts.grid);
         }
     }
 }

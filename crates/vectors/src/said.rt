@@ -1,8 +1,8 @@
 // What the headers of a cell say, printed: the thirteen items as numbers, and the accuracies as they stand.
 use crate::OUTPUT;
-use describing::Described;
+use description::Described;
+use host_items::items::ITEMS;
 use layout::HEADER_BYTES;
-use numbering::items::ITEMS;
 
 // A number behind a blank, with its sign where it is below 0.
 fn print_number(z: i64) {
@@ -28,10 +28,10 @@ fn print_numbers(numbers: &[i64]) {
 
 // What the headers of a cell say, as numbers.
 pub fn print_items(cell: &[u8]) {
-    let described = describing::describe::describe(cell);
+    let described = description::describe::describe(cell);
     if let Described::As(d) = described {
         let mut numbers = [0i64; ITEMS];
-        numbering::numbers::put_numbers(&mut numbers, d);
+        host_items::numbers::put_numbers(&mut numbers, d);
         print_numbers(&numbers);
     }
 }

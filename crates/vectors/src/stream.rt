@@ -1,8 +1,8 @@
 // A whole cell that is never held whole: each piece is written into one buffer and stepped through intake from there.
 use answers::Verdict;
-use stepping::steps::Due;
-use stepping::steps::Phase;
-use stepping::steps::Steps;
+use steps::ColumnsDue;
+use steps::Phase;
+use steps::Steps;
 
 // The longest column, and its posts.
 const PIECE: usize = 7214;
@@ -23,7 +23,7 @@ pub fn put_heights(heights: &mut [i16], column: usize) {
 // A column from the first of these heights, where there are so many.
 fn put_column(buffer: &mut [u8], level: usize, number: usize, heights: &[i16], posts: usize) {
     if posts <= heights.len() {
-        streaming::column::write(buffer, level, number, &heights[..posts]);
+        column_writer::write(buffer, level, number, &heights[..posts]);
     }
 }
 
@@ -60,7 +60,7 @@ pub fn stream(level: usize, columns: usize, posts: usize) -> Verdict {
 // What a state answers that no step made: columns are due of a level and an edge that there may not be.
 pub fn from_made_up(level: usize, edge: usize) -> Verdict {
     let steps = Steps {
-        phase: Phase::Columns(Due {
+        phase: Phase::Columns(ColumnsDue {
             level,
             edge,
             voids: false,

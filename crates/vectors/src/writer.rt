@@ -2,10 +2,10 @@
 use crate::OUTPUT;
 use answers::Outcome;
 use answers::Verdict;
-use describing::Accuracies;
-use describing::Accuracy;
-use describing::Datum;
-use describing::Description;
+use description::Accuracies;
+use description::Accuracy;
+use description::Datum;
+use description::Description;
 
 // A level 0 cell at 89 N, of 21 columns of 121 posts; one byte less; its posts; one post less; a post among them.
 const CELL: usize = 8762;
@@ -48,7 +48,7 @@ fn good() -> Description {
 
 // What the writer answers, on a line.
 fn write(out: &mut [u8], d: Description, heights: &[i16]) {
-    let outcome = writing::cell::write(out, d, heights);
+    let outcome = cell_writer::write(out, d, heights);
     match outcome {
         Outcome::Done => {
             io::write_all(OUTPUT, b"done\n");
@@ -133,7 +133,7 @@ fn try_rest(heights: &mut [i16]) {
 fn try_good(heights: &[i16]) {
     let mut cell = [0u8; CELL];
     write(&mut cell, good(), heights);
-    printing::verdict(OUTPUT, reading::intake::intake(&cell));
+    printing::verdict(OUTPUT, intake::intake(&cell));
     crate::said::print_items(&cell);
     crate::said::print_accuracies(&cell);
 }

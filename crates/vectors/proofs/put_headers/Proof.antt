@@ -1,7 +1,7 @@
 -- `put_headers`: no bad item is every item in range.
-use Rattle.describing.proofs.RangedItems.{item-exactly}
-use Rattle.describing.specs.Facts.{factsFor}
-use Rattle.describing.specs.Items.{inRange}
+use Rattle.description.proofs.RangedItems.{item-exactly}
+use Rattle.description.specs.Facts.{factsFor}
+use Rattle.description.specs.Items.{inRange}
 use Rattle.headers.specs.declared.Facts.{Facts}
 use Rattle.vectors.proofs.put_headers.Statement.{statement}
 use Rattle.vectors.proofs.put_headers.Tie as tie

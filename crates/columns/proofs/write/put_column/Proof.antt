@@ -8,7 +8,7 @@ use Rattle.octets.proofs.JoinedLaws.{length-listed}
 use Rattle.octets.specs.Numbers.{bytesOf, bytesOfWords}
 use Rattle.octets.specs.Pastes.{pasted}
 use Rattle.octets.specs.Sums.{sumOf}
-use Rattle.sources.specs.Given.{Given, given, wordsGiven}
+use Rattle.sources.specs.Heights.{Heights, heightsFrom, heightWords}
 use borrow.Author.Needs.{needs}
 use lib.ListN.{length, take}
 use lib.Seq.{length-take-le}
@@ -21,7 +21,7 @@ module _ (c : tie.After-put-words) where
   start = c .before .before .before .before .before .before .before .before
 
   abbrev words : List ℕ
-  words = wordsGiven (given (start .args .source) (start .args .numbers .now) (start .args .bytes .now)) (start .args .first) (start .args .posts)
+  words = heightWords (heightsFrom (start .args .source) (start .args .numbers .now) (start .args .bytes .now)) (start .args .first) (start .args .posts)
 
   words-long : length (c .put-words .last .0) ≡ length (start .args .out .now)
   words-long = c .put-words .kept .0 ∙ c .before .before .before .before .put-preamble .kept .0

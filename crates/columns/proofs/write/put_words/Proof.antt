@@ -9,7 +9,7 @@ use Rattle.octets.specs.Numbers.{bytesOf, bytesOfWords}
 use Rattle.octets.specs.Parts.{listed}
 use Rattle.octets.specs.Pastes.{pasted}
 use Rattle.posts.specs.Heights.{wordOf}
-use Rattle.sources.specs.Given.{Given, given, nthHeight, wordsGiven}
+use Rattle.sources.specs.Heights.{Heights, heightsFrom, nthHeight, heightWords}
 use borrow.Author.Needs.{needs}
 use lib.ListN.{length}
 use mathlib.Core.List.{List}
@@ -21,7 +21,7 @@ use native.Mathlib.Omega.{arith}
 
 abbrev Inv-loop : tie.InvT-loop
 Inv-loop out₀ source numbers bytes first posts i₀ out i =
-    (i ≤ posts) × ((length out ≡ length out₀) × (out ≡ pasted out₀ 8 (bytesOfWords (wordsGiven (given source numbers bytes) first i))))
+    (i ≤ posts) × ((length out ≡ length out₀) × (out ≡ pasted out₀ 8 (bytesOfWords (heightWords (heightsFrom source numbers bytes) first i))))
 
 abbrev μ-loop : tie.MeasureT-loop
 μ-loop out₀ source numbers bytes first posts i₀ out i = posts - i
@@ -68,7 +68,7 @@ loop-again c =
     let h = w .before in
     let l = h .before .before in
     let a = l .before .before .before .args in
-    let g = given (a .source) (a .numbers .now) (a .bytes .now) in
+    let g = heightsFrom (a .source) (a .numbers .now) (a .bytes .now) in
     let word : ℕ → ℕ = λ i. wordOf (nthHeight g (a .first + i)) in
     let put : w .word-of .result ≡ word (l .loop .i) = rw (height-back h, toZ-ofZ (height-fits h), h .height-at .ensures) at (w .word-of .ensures) in (
       omega arith,
@@ -90,7 +90,7 @@ returns c =
     let a = l .before .before .before .args in
     let all : l .loop .i ≡ a .posts = omega arith in
     l .loop .inv .1 .1
-    ∙ ap (λ (n : ℕ). pasted (a .out .now) 8 (bytesOfWords (wordsGiven (given (a .source) (a .numbers .now) (a .bytes .now)) (a .first) n))) all
+    ∙ ap (λ (n : ℕ). pasted (a .out .now) 8 (bytesOfWords (heightWords (heightsFrom (a .source) (a .numbers .now) (a .bytes .now)) (a .first) n))) all
 
 pub put-words-spec : {M : Type 1} → statement M
 put-words-spec =

@@ -1,5 +1,5 @@
 -- `dted_edit`: the edit's answer, packed, and its bytes.
-use Rattle.packing.specs.Packed.{packed}
+use Rattle.host_answers.specs.Packed.{packed}
 use mathlib.Core.Path.{ap, _∙_}
 use mir.Facts.{toZ-ofZ}
 use borrow.Author.Needs.{needs}

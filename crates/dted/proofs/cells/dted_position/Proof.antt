@@ -1,5 +1,5 @@
 -- `dted_position`: the position lookup's answer, packed.
-use Rattle.packing.specs.Packed.{packed}
+use Rattle.host_answers.specs.Packed.{packed}
 use mathlib.Core.Path.{ap, _∙_}
 use mir.Facts.{toZ-ofZ}
 use borrow.Author.Needs.{needs}

@@ -1,5 +1,5 @@
 -- `dted_post`: the lookup's answer, packed.
-use Rattle.packing.specs.Packed.{packed}
+use Rattle.host_answers.specs.Packed.{packed}
 use mathlib.Core.Path.{ap, _∙_}
 use borrow.Author.Needs.{needs}
 use Rattle.dted.proofs.cells.dted_post.Statement.{statement}

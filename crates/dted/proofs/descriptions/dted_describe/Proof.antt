@@ -1,11 +1,11 @@
 -- `dted_describe`: the reader's answer, packed, and the numbers of what it gave.
-use Rattle.packing.specs.Packed.{packed}
+use Rattle.host_answers.specs.Packed.{packed}
 use mathlib.Core.Path.{_≡_, sym, ap, _∙_}
 use denote.Ref.{now}
-use Rattle.describing.specs.Described.{described}
-use Rattle.describing.specs.declared.Described.{Described}
-use Rattle.describing.specs.declared.Described.the-variants.{As, Refused}
-use Rattle.describing.proofs.ReadRanged.{described-ranged}
+use Rattle.description.specs.Described.{described}
+use Rattle.description.specs.declared.Described.{Described}
+use Rattle.description.specs.declared.Described.the-variants.{As, Refused}
+use Rattle.description.proofs.ReadRanged.{described-ranged}
 use Rattle.dted.specs.Description.{saidOfDescribed, itemsAfter}
 use borrow.Author.Needs.{needs}
 use Rattle.dted.proofs.descriptions.dted_describe.Statement.{statement}

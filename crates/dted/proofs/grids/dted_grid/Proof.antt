@@ -1,5 +1,5 @@
 -- `dted_grid`: by what was laid out.
-use Rattle.packing.specs.Packed.{packed}
+use Rattle.host_answers.specs.Packed.{packed}
 use mathlib.Core.Path.{_≡_, sym, ap, _∙_}
 use mir.Facts.{toZ-ofZ}
 use Rattle.dted.specs.Grid.{saidOfLaid, gridTold}

@@ -1,5 +1,5 @@
 -- `from_south`: the machine's tests of the latitude are the definition's, and its sum with 90 is a count.
-use Rattle.numbering.proofs.NumberRanges.{Angled, angled, cast, cast-is}
+use Rattle.host_items.proofs.NumberRanges.{Angled, angled, cast, cast-is}
 use Rattle.octets.specs.Ranges.{between}
 use Rattle.dted.proofs.Latitudes.{south-in, south-out}
 use Rattle.dted.proofs.grids.from_south.Statement.{statement}

@@ -1,5 +1,5 @@
 -- `dted_write_column`: the column writer's answer, packed, and its bytes.
-use Rattle.packing.specs.Packed.{packed}
+use Rattle.host_answers.specs.Packed.{packed}
 use mathlib.Core.Path.{ap, _∙_}
 use borrow.Author.Needs.{needs}
 use Rattle.dted.proofs.writers.dted_write_column.Statement.{statement}

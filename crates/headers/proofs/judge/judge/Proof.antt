@@ -12,7 +12,7 @@ use Rattle.fields.specs.declared.Number.the-variants as number
 use Rattle.due.specs.Due.{numberOf}
 use lib.Dec.{lit<}
 use Rattle.due.specs.declared.Basis.{Basis}
-use Rattle.headers.specs.declared.Judged.the-variants.{Good, Refused}
+use Rattle.headers.specs.declared.JudgedHeaders.the-variants.{Good, Refused}
 use native.Mathlib.Omega.{arith}
 use borrow.Author.Needs.{needs}
 use Rattle.headers.proofs.Exactly.{judged-short}

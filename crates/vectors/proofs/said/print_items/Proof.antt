@@ -1,6 +1,6 @@
 -- `print_items`: what was described is in range, and is thirteen numbers.
-use Rattle.describing.proofs.ReadRanged.{described-ranged}
-use Rattle.numbering.specs.Items.{numbersOf}
+use Rattle.description.proofs.ReadRanged.{described-ranged}
+use Rattle.host_items.specs.Items.{numbersOf}
 use borrow.Author.Needs.{needs}
 use lib.ListN.{length}
 use mathlib.Core.Path.{sym, ap, _∙_}

@@ -1,0 +1,68 @@
+-- Write then read restores everything (rule D2): the cell is accepted, and gives back its description, its grid and each post.
+use Prim.Native.Nat.{ℕ, _+_, _*_, _<_}
+use native.Mathlib.Omega.{arith}
+use mathlib.Core.Path.{_≡_, ap, _∙_}
+use mathlib.Core.Bool.{true}
+use mathlib.Core.List.{List, map}
+use lib.IntN.{ℤ, pos}
+use lib.ListN.{length, getD}
+use Rattle.octets.proofs.JoinedLaws.{part-within}
+use Rattle.octets.proofs.ListLaws.{mapped}
+use Rattle.answers.specs.Told.{accepted}
+use Rattle.layout.specs.declared.Frame.{Frame}
+use Rattle.posts.specs.Heights.{wordOf, saidBy}
+use Rattle.posts.proofs.RoundTrip.{height-back}
+use Rattle.headers.specs.Judged.{frameIn}
+use Rattle.description.specs.Items.{inRange}
+use Rattle.description.specs.Described.{described}
+use Rattle.description.specs.declared.Description.{Description}
+use Rattle.description.specs.declared.Described.the-variants.{As}
+use Rattle.header_writer.specs.Written.{headersFor}
+use Rattle.header_writer.proofs.WrittenGood.{written-described}
+use Rattle.columns.specs.Column.{wordsOf}
+use Rattle.columns.proofs.ColumnHeights.{Held, said-back}
+use Rattle.cells.specs.Cell.{Cell}
+use Rattle.cells.specs.Grid.{heightAt, columnsWritten, gridIn}
+use Rattle.cells.proofs.FramedWords.{Made}
+use Rattle.cells.proofs.MadeCells.{made-frame, made-cell, made-words}
+use Rattle.intake.specs.Intake.{taken}
+use Rattle.intake.proofs.CellExactly.{cell-accepted}
+use Rattle.lookup.specs.Lookup.{heightSaid, lookedUp}
+use Rattle.lookup.proofs.LookupLaws.{said-there}
+use Rattle.cell_writer.specs.Cell.{postsDue, frameFor, cellOf}
+use Rattle.cell_writer.proofs.WrittenCell.{written-headed, written-made}
+
+pub restored-description : (d : Description) → inRange d ≡ true → (zs : List ℤ) → described (cellOf d zs) ≡ As d
+unfolding cellOf
+restored-description d e zs = written-described d (columnsWritten (frameFor d .grid .posts) zs (frameFor d .grid .columns)) e
+
+module _ (d : Description) (e : inRange d ≡ true) (zs : List ℤ) (all : length zs ≡ postsDue (frameFor d .grid)) (held : Held (frameFor d .voids) zs) where
+  made : Made (frameFor d) (headersFor d) (wordsOf zs)
+  made = written-made d e zs all held
+
+  written-frame : frameIn (cellOf d zs) ≡ frameFor d
+  unfolding cellOf
+  written-frame = made-frame (frameFor d) (headersFor d) (wordsOf zs) (written-headed d e) made
+
+  pub written-cell : Cell (cellOf d zs)
+  unfolding cellOf
+  written-cell = made-cell (frameFor d) (headersFor d) (wordsOf zs) (written-headed d e) made
+
+  pub restored-accepted : taken (cellOf d zs) ≡ accepted (frameFor d .grid .level) (frameFor d .grid .columns) (frameFor d .grid .posts)
+  restored-accepted =
+      cell-accepted (cellOf d zs) written-cell ∙ ap (λ (f : Frame). accepted (f .grid .level) (f .grid .columns) (f .grid .posts)) written-frame
+
+  pub restored-grid : gridIn (cellOf d zs) ≡ zs
+  unfolding cellOf
+  restored-grid = ap (map saidBy) (made-words (frameFor d) (headersFor d) (wordsOf zs) (written-headed d e) made) ∙ said-back (frameFor d .voids) zs held
+
+  pub restored-post : (c p : ℕ) → c < frameFor d .grid .columns → p < frameFor d .grid .posts
+      → lookedUp (cellOf d zs) c p ≡ heightSaid (heightAt (frameFor d .grid .posts) zs c p)
+  unfolding cellOf
+  restored-post c p hc hp =
+      let f = frameFor d in
+      let i = c * f .grid .posts + p in
+      let w = part-within c (f .grid .columns) (f .grid .posts) hc in
+      said-there f (headersFor d) (wordsOf zs) (written-headed d e) made c p hc hp
+      ∙ ap (λ (u : ℕ). heightSaid (saidBy u)) (mapped wordOf zs i (pos 0) 0 (omega arith))
+      ∙ ap heightSaid (height-back (f .voids) (getD zs i (pos 0)) (held i (omega arith)))

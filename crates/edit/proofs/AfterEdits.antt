@@ -1,0 +1,57 @@
+-- Edits and heights, through the words (rule D3): the grid after edits, and the columns written afresh from it.
+use Prim.Native.Nat.{ℕ, _+_, _*_}
+use mathlib.Core.Path.{_≡_, refl, sym, ap, _∙_}
+use mathlib.Core.List.{List, [], _∷_, map}
+use lib.IntN.{ℤ}
+use lib.ListN.{take, set}
+use Rattle.octets.specs.Numbers.{Bytes}
+use Rattle.octets.proofs.ChoiceLaws.{by-test}
+use Rattle.octets.proofs.JoinedLaws.{map-set}
+use Rattle.layout.specs.Grid.{headerBytes}
+use Rattle.layout.specs.declared.Frame.{Frame}
+use Rattle.posts.specs.Heights.{wordOf, saidBy}
+use Rattle.posts.proofs.RoundTrip.{height-back}
+use Rattle.headers.specs.Judged.{frameIn}
+use Rattle.columns.specs.Column.{wordsOf}
+use Rattle.cells.specs.Cell.{Cell}
+use Rattle.cells.specs.Words.{cellOfWords, wordsOfCell}
+use Rattle.cells.specs.Grid.{afresh, gridIn}
+use Rattle.cells.proofs.OwnGrid.{own-words}
+use Rattle.edit.specs.Sequence.{Call, takes, afterEdits, wordsWith, wordsAfter, gridWith, gridAfter}
+use Rattle.edit.proofs.FrameEdits.{taken}
+use Rattle.edit.proofs.EditWords.{edits-left, edits-own}
+
+module _ (f : Frame) where
+  -- the words of an edited grid are the edited words
+  one-word : (zs : List ℤ) (e : Call) → wordsOf (gridWith f zs e) ≡ wordsWith f (wordsOf zs) e
+  one-word zs e = by-test (takes f e) (λ t. rw t (map-set wordOf zs _ (e .height))) (λ t. rw t)
+
+  pub words-of-after : (es : List Call) (zs : List ℤ) → wordsOf (gridAfter f zs es) ≡ wordsAfter f (wordsOf zs) es
+  unfolding gridAfter wordsAfter
+  words-of-after [] zs = refl
+  words-of-after (e ∷ es) zs = words-of-after es (gridWith f zs e) ∙ ap (λ (ws : List ℕ). wordsAfter f ws es) (one-word zs e)
+
+  -- and edited words say the edited grid, whatever the words were
+  one-said : (ws : List ℕ) (e : Call) → map saidBy (wordsWith f ws e) ≡ gridWith f (map saidBy ws) e
+  one-said ws e =
+      by-test (takes f e)
+      (λ t.
+      let i = e .column * f .grid .posts + e .post in
+      rw t (map-set saidBy ws i (wordOf (e .height)) ∙ ap (set (map saidBy ws) i) (height-back (f .voids) (e .height) (taken f e t .held))))
+      (λ t. rw t)
+
+  pub said-after : (es : List Call) (ws : List ℕ) → map saidBy (wordsAfter f ws es) ≡ gridAfter f (map saidBy ws) es
+  unfolding gridAfter wordsAfter
+  said-after [] ws = refl
+  said-after (e ∷ es) ws = said-after es (wordsWith f ws e) ∙ ap (λ (zs : List ℤ). gridAfter f zs es) (one-said ws e)
+
+module _ (s : List ℕ) (cell : Cell s) (bytes : Bytes s) (es : List Call) where
+  pub edits-grid : gridIn (afterEdits s es) ≡ gridAfter (frameIn s) (gridIn s) es
+  edits-grid = ap (map saidBy) (edits-own s cell bytes es) ∙ said-after (frameIn s) es (wordsOfCell s)
+
+  -- D3: where every word of the cell is the writer's
+  pub edits-afresh : afterEdits s es ≡ afresh (take headerBytes s) (frameIn s .grid) (gridAfter (frameIn s) (gridIn s) es)
+  edits-afresh =
+      edits-left s cell bytes es
+      ∙ ap (cellOfWords (take headerBytes s) (frameIn s .grid))
+      (ap (λ (ws : List ℕ). wordsAfter (frameIn s) ws es) (sym (own-words s bytes cell)) ∙ sym (words-of-after (frameIn s) es (gridIn s)))

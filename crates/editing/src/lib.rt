@@ -1,2 +1,0 @@
-// Editing: one post of a lent cell is made another height or void.
-pub mod edit;

@@ -1,0 +1,2 @@
+-- What the program hands out.
+pub mod Found

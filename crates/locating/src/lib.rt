@@ -1,2 +1,0 @@
-// Lookup of a position: the post nearest it, and its height or void.
-pub mod position;

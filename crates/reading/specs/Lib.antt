@@ -1,3 +1,0 @@
--- What intake answers of any bytes.
-pub mod Intake
-pub mod Asked

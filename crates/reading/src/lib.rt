@@ -1,2 +1,0 @@
-// Reading a whole cell from its bytes.
-pub mod intake;

@@ -1,7 +1,0 @@
--- The laws of stepping.
-pub mod Pieces
-pub mod Kept
-pub mod StepByStep
-pub mod StepsWhole
-pub mod StoppedEarly
-pub mod TurnsLeft

@@ -1,0 +1,200 @@
+// Intake step by step: the headers, a piece for each column, then the rest. The state goes in and comes back by value.
+ghost use mathlib.Core.Path.{_≡_};
+ghost use Prim.Native.Nat.{_≤_};
+ghost use Rattle.answers.specs.Told as told;
+ghost use Rattle.layout.specs.Ranges.{Ranged};
+ghost use Rattle.steps.specs.Steps.{saidOf, saidOfColumn, Step, wanted};
+use answers::Refusal;
+use answers::Verdict;
+use columns::JudgedColumn;
+use headers::judge::frame_of;
+use intake::end;
+use layout::Frame;
+use layout::HEADER_BYTES;
+use layout::Laid;
+use layout::zones::near_edge;
+
+// The columns still due: of which grid, and which is next.
+pub struct ColumnsDue {
+    pub level: usize,
+    pub edge: usize,
+    pub voids: bool,
+    pub next: usize,
+}
+
+// What the next piece is for.
+pub enum Phase {
+    Headers,
+    Columns(ColumnsDue),
+    Over(Verdict),
+}
+
+pub struct Steps {
+    pub phase: Phase,
+}
+
+// The new state, and what the step answers.
+pub struct Stepped {
+    pub steps: Steps,
+    pub answer: Verdict,
+}
+
+// What a piece answers where column `next` under the frame is due, or where none is left.
+fn column_answer(frame: Frame, next: usize, piece: &[u8]) -> Verdict
+    requires { ⌜ Ranged (frame .grid) ⌝ }
+    ensures { λ r. ⌜ told.told told.intake r ≡ saidOfColumn frame next (now (piece .entry)) ⌝ }
+{
+    let grid = frame.grid;
+    let bytes = grid.bytes;
+    let size = bytes.column;
+    if grid.columns <= next {
+        return end(bytes.cell + piece.len(), grid);
+    }
+    let base = HEADER_BYTES + next * size;
+    if piece.len() < size {
+        return Verdict::Refused(Refusal::Cut(base));
+    }
+    let posts = grid.posts;
+    let judged = columns::judge(&piece[..size], next, posts, frame.voids, base);
+    match judged {
+        JudgedColumn::Good => Verdict::More,
+        JudgedColumn::Refused(refusal) => Verdict::Refused(refusal),
+    }
+}
+
+// What a piece answers where columns are due; any level, edge and number.
+fn columns_answer(due: ColumnsDue, piece: &[u8]) -> Verdict
+    ensures { λ r. ⌜ told.told told.intake r ≡ saidOf (Phase.Columns due) (now (piece .entry)) ⌝ }
+{
+    let laid = layout::lay(due.level, due.edge);
+    match laid {
+        Laid::Out(grid) => column_answer(
+            Frame {
+                grid,
+                voids: due.voids,
+            },
+            due.next,
+            piece,
+        ),
+        Laid::NoLevel => Verdict::Refused(Refusal::OffGrid),
+        Laid::NoZone => Verdict::Refused(Refusal::OffGrid),
+    }
+}
+
+// The state in which every later step repeats this answer.
+fn over(answer: Verdict) -> Stepped
+    ensures { λ r. ⌜ (r .answer ≡ answer) × (r .steps .phase ≡ Phase.Over answer) ⌝ }
+{
+    Stepped {
+        steps: Steps {
+            phase: Phase::Over(answer),
+        },
+        answer,
+    }
+}
+
+fn first_step(piece: &[u8]) -> Stepped
+    ensures { λ r. ⌜ Step Phase.Headers (now (piece .entry)) (r .answer) (r .steps .phase) ⌝ }
+{
+    let judged = headers::judge::judge(piece);
+    match judged {
+        headers::JudgedHeaders::Good(facts) => {
+            let grid = facts.grid;
+            let frame = frame_of(facts);
+            Stepped {
+                steps: Steps {
+                    phase: Phase::Columns(ColumnsDue {
+                        level: grid.level,
+                        edge: near_edge(facts.latitude),
+                        voids: frame.voids,
+                        next: 0,
+                    }),
+                },
+                answer: Verdict::More,
+            }
+        }
+        headers::JudgedHeaders::Refused(refusal) => over(Verdict::Refused(refusal)),
+    }
+}
+
+fn column_step(due: ColumnsDue, piece: &[u8]) -> Stepped
+    ensures { λ r. ⌜ Step (Phase.Columns due) (now (piece .entry)) (r .answer) (r .steps .phase) ⌝ }
+{
+    let answer = columns_answer(due, piece);
+    match answer {
+        Verdict::More => Stepped {
+            steps: Steps {
+                phase: Phase::Columns(ColumnsDue {
+                    level: due.level,
+                    edge: due.edge,
+                    voids: due.voids,
+                    next: due.next + 1,
+                }),
+            },
+            answer: Verdict::More,
+        },
+        Verdict::Accepted {
+            level,
+            columns,
+            posts,
+        } => over(Verdict::Accepted {
+            level,
+            columns,
+            posts,
+        }),
+        Verdict::Refused(refusal) => over(Verdict::Refused(refusal)),
+    }
+}
+
+// How many bytes the next column has; one after the last, to see whether anything follows.
+fn column_wanted(due: ColumnsDue) -> usize
+    ensures { λ r. ⌜ (r ≡ wanted (Phase.Columns due)) × (r ≤ 7214) ⌝ }
+{
+    let laid = layout::lay(due.level, due.edge);
+    match laid {
+        Laid::Out(grid) => {
+            let bytes = grid.bytes;
+            if due.next < grid.columns {
+                bytes.column
+            } else {
+                1
+            }
+        }
+        Laid::NoLevel => 0,
+        Laid::NoZone => 0,
+    }
+}
+
+impl Steps {
+    pub fn new() -> Self
+        ensures { λ r. ⌜ r .phase ≡ Phase.Headers ⌝ }
+    {
+        Self {
+            phase: Phase::Headers,
+        }
+    }
+
+    // How many bytes the next piece should have.
+    pub fn wanted(self) -> usize
+        ensures { λ r. ⌜ (r ≡ wanted (self .phase)) × (r ≤ 7214) ⌝ }
+    {
+        let phase = self.phase;
+        match phase {
+            Phase::Headers => HEADER_BYTES,
+            Phase::Columns(due) => column_wanted(due),
+            Phase::Over(_) => 0,
+        }
+    }
+
+    // One piece: the new state, and the answer; any state and any bytes.
+    pub fn step(self, piece: &[u8]) -> Stepped
+        ensures { λ r. ⌜ Step (self .phase) (now (piece .entry)) (r .answer) (r .steps .phase) ⌝ }
+    {
+        let phase = self.phase;
+        match phase {
+            Phase::Headers => first_step(piece),
+            Phase::Columns(due) => column_step(due, piece),
+            Phase::Over(answer) => over(answer),
+        }
+    }
+}

@@ -1,2 +1,0 @@
-// Storing one post in a good column, in place.
-pub mod store;

@@ -1,2 +1,0 @@
-// Writing a whole cell from a description and a grid of heights.
-pub mod cell;
