@@ -15,7 +15,7 @@ use Rattle.octets.proofs.ChoiceLaws.{by-test}
 use Rattle.octets.proofs.DigitLaws.{length-digits, decimal-back, digits-are}
 use Rattle.octets.proofs.TextLaws.{part-has, has-append, ends-either}
 use Rattle.octets.proofs.DigitTexts.{has-digits}
-use Rattle.angles.specs.Angles.{Form, degreesIn, letterIn, isAngle, isOrigin, angleOf, degreesOf, letterOf, isSame, isCorner, eitherLetter, mayTurn, angleText}
+use Rattle.angles.specs.Angles.{Form, degreesIn, letterIn, isAngle, isOrigin, angleOf, degreesOf, letterOf, isSame, isCorner, eitherLetter, mayCarry, angleText}
 use Rattle.angles.specs.declared.Axis.{Axis}
 use Rattle.octets.proofs.PartLaws.{decimal-part, digits-part}
 
@@ -102,7 +102,7 @@ sorted true false false x = refl
 sorted false e z x = refl
 
 corner-by : (a : Axis) (angle degrees letter : ℕ)
-    → isCorner a angle degrees letter ≡ both (eqb degrees (degreesOf a angle)) (either (eqb letter (letterOf a angle)) (mayTurn a angle letter))
+    → isCorner a angle degrees letter ≡ both (eqb degrees (degreesOf a angle)) (either (eqb letter (letterOf a angle)) (mayCarry a angle letter))
 corner-by a angle degrees letter =
     by-test (eqb degrees (degreesOf a angle))
     (λ e. rw (eqb-true degrees (degreesOf a angle) e))
@@ -142,7 +142,7 @@ module _ (f : Form) (a : Axis) (angle : ℕ) (t : List ℕ) (long : length t ≡
       ∙ ap (λ (b : Bool). both (isAngle f t) (both (eqb (degreesIn f t) (degreesOf a angle)) b)) (either-false (eqb (letterIn f t) (letterOf a angle))))
 
   pub corner-stands : both (isAngle f t) (isCorner a angle (degreesIn f t) (letterIn f t))
-      ≡ either (has t 0 (angleText f a angle)) (both (eqb (suc (differ t 0 (angleText f a angle))) (length t)) (mayTurn a angle (letterIn f t)))
+      ≡ either (has t 0 (angleText f a angle)) (both (eqb (suc (differ t 0 (angleText f a angle))) (length t)) (mayCarry a angle (letterIn f t)))
   corner-stands =
       ap (both (isAngle f t)) (corner-by a angle (degreesIn f t) (letterIn f t))
-      ∙ sym (angle-ends (mayTurn a angle (letterIn f t)))
+      ∙ sym (angle-ends (mayCarry a angle (letterIn f t)))

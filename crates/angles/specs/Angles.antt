@@ -71,5 +71,5 @@ unfoldable pub angleText : Form → Axis → ℕ → List ℕ
 angleText f a angle = digitsOf (f .digits) (degreesOf a angle) ++ f .zeros ++ (letterOf a angle ∷ [])
 
 -- H42: a letter that may stand at the end of a corner at this angle, whatever its own is
-abbrev pub mayTurn : Axis → ℕ → ℕ → Bool
-mayTurn a angle letter = both (eitherLetter a (degreesOf a angle)) (either (eqb letter (a .plus)) (eqb letter (a .minus)))
+abbrev pub mayCarry : Axis → ℕ → ℕ → Bool
+mayCarry a angle letter = both (eitherLetter a (degreesOf a angle)) (either (eqb letter (a .plus)) (eqb letter (a .minus)))

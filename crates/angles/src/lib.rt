@@ -2,7 +2,7 @@
 ghost use mathlib.Core.Path.{_≡_};
 ghost use Prim.Native.Nat.{suc, _+_};
 ghost use lib.ListN.{length};
-ghost use Rattle.angles.specs.Angles.{form, degreesOf, letterOf, isOrigin, mayTurn, angleText};
+ghost use Rattle.angles.specs.Angles.{form, degreesOf, letterOf, isOrigin, mayCarry, angleText};
 use octets::choices::both;
 use octets::choices::either;
 
@@ -59,8 +59,8 @@ pub fn is_origin(axis: Axis, degrees: usize, letter: u8) -> bool
 }
 
 // Whether a letter may stand at the end of a corner at this angle, whatever its own is: at 0 degrees, and at longitude 180.
-pub fn may_turn(axis: Axis, angle: usize, side: u8) -> bool
-    ensures { λ r. ⌜ r ≡ mayTurn axis angle side ⌝ }
+pub fn may_carry(axis: Axis, angle: usize, side: u8) -> bool
+    ensures { λ r. ⌜ r ≡ mayCarry axis angle side ⌝ }
 {
     let found = degrees(axis, angle);
     let free = either(found == 0, both(axis.most == 180, found == 180));

@@ -11,20 +11,20 @@ use Rattle.fields.specs.declared.Angle.{Angle}
 use Rattle.fields.specs.declared.Angle.the-variants as angle
 use Rattle.fields.specs.declared.Due.{Due}
 use Rattle.fields.specs.declared.Due.the-variants as due
-use Rattle.due.specs.Due.{textOf, numberOf, bearingOf, formOf, bearingText, angleWidth, dueText, dueWidth}
+use Rattle.due.specs.Due.{textOf, numberOf, dueAngle, formOf, dueAngleText, angleWidth, dueText, dueWidth}
 use Rattle.due.specs.declared.Basis.{Basis}
-use Rattle.due.specs.declared.bearings.Bearing.{Bearing}
+use Rattle.due.specs.declared.due_angles.DueAngle.{DueAngle}
 
-length-bearing : (b : Bearing) → length (bearingText b) ≡ suc (formOf b .digits + length (formOf b .zeros))
-length-bearing b = length-angle (formOf b) (b .axis) (b .angle)
+length-due-angle : (b : DueAngle) → length (dueAngleText b) ≡ suc (formOf b .digits + length (formOf b .zeros))
+length-due-angle b = length-angle (formOf b) (b .axis) (b .angle)
 
-length-edge : (a : Angle) (b : Basis) → length (bearingText (bearingOf a b)) ≡ angleWidth a
-length-edge angle.OriginLatitude b = length-bearing (bearingOf angle.OriginLatitude b)
-length-edge angle.OriginLongitude b = length-bearing (bearingOf angle.OriginLongitude b)
-length-edge angle.South b = length-bearing (bearingOf angle.South b)
-length-edge angle.North b = length-bearing (bearingOf angle.North b)
-length-edge angle.West b = length-bearing (bearingOf angle.West b)
-length-edge angle.East b = length-bearing (bearingOf angle.East b)
+length-edge : (a : Angle) (b : Basis) → length (dueAngleText (dueAngle a b)) ≡ angleWidth a
+length-edge angle.OriginLatitude b = length-due-angle (dueAngle angle.OriginLatitude b)
+length-edge angle.OriginLongitude b = length-due-angle (dueAngle angle.OriginLongitude b)
+length-edge angle.South b = length-due-angle (dueAngle angle.South b)
+length-edge angle.North b = length-due-angle (dueAngle angle.North b)
+length-edge angle.West b = length-due-angle (dueAngle angle.West b)
+length-edge angle.East b = length-due-angle (dueAngle angle.East b)
 
 pub length-due : (k : Due) (b : Basis) → length (dueText k b) ≡ dueWidth k
 unfolding dueText
@@ -35,13 +35,13 @@ length-due due.Letter b = refl
 length-due due.Series b = ap (λ (n : ℕ). suc (suc (suc (suc n)))) (length-digits 1 (b .grid .level))
 
 -- what an angle's text asks of its field
-pub bearing-wide : (a : Angle) (b : Basis) → angleWidth a ≡ suc (formOf (bearingOf a b) .digits + length (formOf (bearingOf a b) .zeros))
-bearing-wide angle.OriginLatitude b = refl
-bearing-wide angle.OriginLongitude b = refl
-bearing-wide angle.South b = refl
-bearing-wide angle.North b = refl
-bearing-wide angle.West b = refl
-bearing-wide angle.East b = refl
+pub due-angle-wide : (a : Angle) (b : Basis) → angleWidth a ≡ suc (formOf (dueAngle a b) .digits + length (formOf (dueAngle a b) .zeros))
+due-angle-wide angle.OriginLatitude b = refl
+due-angle-wide angle.OriginLongitude b = refl
+due-angle-wide angle.South b = refl
+due-angle-wide angle.North b = refl
+due-angle-wide angle.West b = refl
+due-angle-wide angle.East b = refl
 
 -- ten bytes hold what is due in any field
 text-small : (x : Text) → length (textOf x) ≤ 10

@@ -6,7 +6,7 @@ use lib.ListN.{length}
 use Rattle.fields.specs.declared.Due.{Due}
 use Rattle.due.specs.Due.{formOf, dueWidth}
 use Rattle.due.specs.declared.Basis.{Basis}
-use Rattle.due.specs.declared.bearings.Bearing.{Bearing}
+use Rattle.due.specs.declared.due_angles.DueAngle.{DueAngle}
 
 -- degrees from 90 S and from 180 W at which a cell has its origin
 pub record OriginInRange (north east : ℕ) : Type 0 where
@@ -14,7 +14,7 @@ pub record OriginInRange (north east : ℕ) : Type 0 where
   pub longitude : east < 360
 
 -- a field as wide as an angle's text
-pub record BearingField (b : Bearing) (field : List ℕ) : Type 0 where
+pub record AngleField (b : DueAngle) (field : List ℕ) : Type 0 where
   pub wide : length field ≡ suc (formOf b .digits + length (formOf b .zeros))
 
 -- a field as wide as what is due in it, of a cell whose origin is in range

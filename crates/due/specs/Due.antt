@@ -7,7 +7,7 @@ use Rattle.octets.specs.Choice.{pick, both}
 use Rattle.octets.specs.Digits.{digitsOf}
 use Rattle.octets.specs.Texts.{ascii}
 use Rattle.layout.specs.declared.Grid.{Grid}
-use Rattle.angles.specs.Angles.{Form, form, northward, eastward, angleText, mayTurn}
+use Rattle.angles.specs.Angles.{Form, form, northward, eastward, angleText, mayCarry}
 use Rattle.angles.specs.declared.Axis.{Axis}
 use Rattle.fields.specs.declared.Text.{Text}
 use Rattle.fields.specs.declared.Text.the-variants as text
@@ -18,7 +18,7 @@ use Rattle.fields.specs.declared.Angle.the-variants as angle
 use Rattle.fields.specs.declared.Due.{Due}
 use Rattle.fields.specs.declared.Due.the-variants as due
 use Rattle.due.specs.declared.Basis.{Basis}
-use Rattle.due.specs.declared.bearings.Bearing.{Bearing}
+use Rattle.due.specs.declared.due_angles.DueAngle.{DueAngle}
 
 -- the fixed texts
 abbrev pub textOf : Text → List ℕ
@@ -43,33 +43,33 @@ numberOf number.Columns g = g .columns
 numberOf number.Posts g = g .posts
 
 -- the origin once more, as DDMMSS.SH and DDDMMSS.SH, and an edge at a corner, as DDMMSSH and DDDMMSSH
-abbrev pub again : Axis → ℕ → ℕ → Bearing
+abbrev pub again : Axis → ℕ → ℕ → DueAngle
 again axis digits angle = record { axis = axis; angle = angle; digits = digits; tenths = true; corner = false }
 
-abbrev pub corner : Axis → ℕ → ℕ → Bearing
+abbrev pub corner : Axis → ℕ → ℕ → DueAngle
 corner axis digits angle = record { axis = axis; angle = angle; digits = digits; tenths = false; corner = true }
 
 -- which angle is due; an eastern edge at 180 is 180 E, a western one 180 W, and 0 is N and E
-abbrev pub bearingOf : Angle → Basis → Bearing
-bearingOf angle.OriginLatitude b = again northward 2 (b .latitude)
-bearingOf angle.OriginLongitude b = again eastward 3 (b .longitude)
-bearingOf angle.South b = corner northward 2 (b .latitude)
-bearingOf angle.North b = corner northward 2 (b .latitude + 1)
-bearingOf angle.West b = corner eastward 3 (b .longitude)
-bearingOf angle.East b = corner eastward 3 (b .longitude + 1)
+abbrev pub dueAngle : Angle → Basis → DueAngle
+dueAngle angle.OriginLatitude b = again northward 2 (b .latitude)
+dueAngle angle.OriginLongitude b = again eastward 3 (b .longitude)
+dueAngle angle.South b = corner northward 2 (b .latitude)
+dueAngle angle.North b = corner northward 2 (b .latitude + 1)
+dueAngle angle.West b = corner eastward 3 (b .longitude)
+dueAngle angle.East b = corner eastward 3 (b .longitude + 1)
 
 -- and its bytes
-abbrev pub formOf : Bearing → Form
+abbrev pub formOf : DueAngle → Form
 formOf b = form (b .digits) (pick (b .tenths) (ascii "0000.0") (ascii "0000"))
 
-abbrev pub bearingText : Bearing → List ℕ
-bearingText b = angleText (formOf b) (b .axis) (b .angle)
+abbrev pub dueAngleText : DueAngle → List ℕ
+dueAngleText b = angleText (formOf b) (b .axis) (b .angle)
 
 -- the bytes that are due in a field
 unfoldable pub dueText : Due → Basis → List ℕ
 dueText (due.Text x) b = textOf x
 dueText (due.Number n) b = digitsOf 4 (numberOf n (b .grid))
-dueText (due.Angle a) b = bearingText (bearingOf a b)
+dueText (due.Angle a) b = dueAngleText (dueAngle a b)
 dueText due.Letter b = b .letter ∷ []
 dueText due.Series b = ascii "DTED" ++ digitsOf 1 (b .grid .level)
 
@@ -77,7 +77,7 @@ dueText due.Series b = ascii "DTED" ++ digitsOf 1 (b .grid .level)
 abbrev pub mayEnd : Due → Basis → ℕ → Bool
 mayEnd (due.Text x) b last = false
 mayEnd (due.Number n) b last = false
-mayEnd (due.Angle a) b last = both (bearingOf a b .corner) (mayTurn (bearingOf a b .axis) (bearingOf a b .angle) last)
+mayEnd (due.Angle a) b last = both (dueAngle a b .corner) (mayCarry (dueAngle a b .axis) (dueAngle a b .angle) last)
 mayEnd due.Letter b last = false
 mayEnd due.Series b last = false
 

@@ -6,9 +6,9 @@ ghost use Rattle.octets.specs.Texts.{differ};
 ghost use Rattle.due.specs.Due.{dueText, mayEnd};
 ghost use Rattle.due.specs.Asked.{OriginInRange, DueField};
 use crate::Basis;
-use crate::bearings::bearing_of;
+use crate::due_angles::due_angle;
 use crate::put::put_due;
-use angles::may_turn;
+use angles::may_carry;
 use fields::Angle;
 use fields::Due;
 use octets::texts::differs;
@@ -31,9 +31,9 @@ fn corner_may_end(angle: Angle, basis: Basis, last: u8) -> bool
     requires { ⌜ OriginInRange (basis .latitude) (basis .longitude) ⌝ }
     ensures { λ r. ⌜ r ≡ mayEnd (Due.Angle angle) basis last ⌝ }
 {
-    let found = bearing_of(angle, basis);
+    let found = due_angle(angle, basis);
     let axis = found.axis;
-    octets::choices::both(found.corner, may_turn(axis, found.angle, last))
+    octets::choices::both(found.corner, may_carry(axis, found.angle, last))
 }
 
 // Whether a byte may be the last one of a field where another is due: a corner's letter may, at 0 and 180 degrees.

@@ -2,8 +2,8 @@
 // Inside, a latitude is counted in whole degrees from 90 S and a longitude from 180 W, so that both are unsigned.
 use layout::Grid;
 
-pub mod bearings;
 pub mod compare;
+pub mod due_angles;
 pub mod numbers;
 pub mod put;
 pub mod texts;

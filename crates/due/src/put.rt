@@ -6,11 +6,11 @@ ghost use lib.ListN.{length};
 ghost use Rattle.octets.specs.Digits.{digitsOf};
 ghost use Rattle.octets.specs.Texts.{ascii};
 ghost use Rattle.angles.specs.Angles.{angleText};
-ghost use Rattle.due.specs.Due.{textOf, formOf, bearingText, dueText};
-ghost use Rattle.due.specs.Asked.{BearingField, DueField};
+ghost use Rattle.due.specs.Due.{textOf, formOf, dueAngleText, dueText};
+ghost use Rattle.due.specs.Asked.{AngleField, DueField};
 use crate::Basis;
-use crate::bearings::Bearing;
-use crate::bearings::bearing_of;
+use crate::due_angles::DueAngle;
+use crate::due_angles::due_angle;
 use crate::numbers::number;
 use crate::texts::MMSS;
 use crate::texts::MMSS_S;
@@ -50,14 +50,14 @@ fn put_text(field: &mut [u8], text: Text)
     }
 }
 
-fn put_bearing(field: &mut [u8], bearing: Bearing)
-    requires { ⌜ BearingField bearing (now field) ⌝ }
-    ensures { λ _. ⌜ now (field .exit) ≡ bearingText bearing ⌝ }
+fn put_due_angle(field: &mut [u8], due: DueAngle)
+    requires { ⌜ AngleField due (now field) ⌝ }
+    ensures { λ _. ⌜ now (field .exit) ≡ dueAngleText due ⌝ }
 {
-    let axis = bearing.axis;
-    let angle = bearing.angle;
-    let digits = bearing.digits;
-    if bearing.tenths {
+    let axis = due.axis;
+    let angle = due.angle;
+    let digits = due.digits;
+    if due.tenths {
         put_angle(field, digits, &MMSS_S, axis, angle);
     } else {
         put_angle(field, digits, &MMSS, axis, angle);
@@ -81,7 +81,7 @@ pub fn put_due(field: &mut [u8], due: Due, basis: Basis)
     match due {
         Due::Text(text) => put_text(field, text),
         Due::Number(n) => put_number(field, 4, number(n, grid)),
-        Due::Angle(angle) => put_bearing(field, bearing_of(angle, basis)),
+        Due::Angle(angle) => put_due_angle(field, due_angle(angle, basis)),
         Due::Letter => put(field, &[basis.letter]),
         Due::Series => put_series(field, grid.level),
     }

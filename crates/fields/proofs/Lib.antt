@@ -1,3 +1,3 @@
--- The laws of the field table, and the proofs of the functions that read it.
-mod Records
+-- The laws of the field table, and of matches on its rows.
+mod LastRow
 pub mod ItemRows

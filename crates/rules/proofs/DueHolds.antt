@@ -20,7 +20,7 @@ use Rattle.fields.specs.declared.Angle.{Angle}
 use Rattle.fields.specs.declared.Angle.the-variants as angle
 use Rattle.fields.specs.declared.Due.{Due}
 use Rattle.fields.specs.declared.Due.the-variants as due
-use Rattle.due.specs.Due.{textOf, numberOf, bearingOf, bearingText, angleWidth, dueText, dueWidth, mayEnd}
+use Rattle.due.specs.Due.{textOf, numberOf, dueAngle, dueAngleText, angleWidth, dueText, dueWidth, mayEnd}
 use Rattle.due.specs.Asked.{OriginInRange}
 use Rattle.due.specs.declared.Basis.{Basis}
 use Rattle.due.proofs.DueWidths.{length-due}
@@ -43,7 +43,7 @@ last-at t n h = let e : n ≡ length t - 1 = omega arith in ap (λ (i : ℕ). ge
 
 module _ (b : Basis) (r : OriginInRange (b .latitude) (b .longitude)) (t : List ℕ) where
   angle-stands : (a : Angle) → length t ≡ angleWidth a
-      → angleHolds a b t ≡ endsIn t (bearingText (bearingOf a b)) (mayEnd (due.Angle a) b (getD t (length t - 1) 0))
+      → angleHolds a b t ≡ endsIn t (dueAngleText (dueAngle a b)) (mayEnd (due.Angle a) b (getD t (length t - 1) 0))
   unfolding angleHolds
   angle-stands angle.OriginLatitude w =
       same-stands (form 2 (ascii "0000.0")) northward (b .latitude) t w (omega (arith, degrees-small northward (b .latitude) (omega (arith, r .latitude))))
@@ -51,16 +51,16 @@ module _ (b : Basis) (r : OriginInRange (b .latitude) (b .longitude)) (t : List 
       same-stands (form 3 (ascii "0000.0")) eastward (b .longitude) t w (omega (arith, degrees-small eastward (b .longitude) (omega (arith, r .longitude))))
   angle-stands angle.South w =
       corner-stands (form 2 (ascii "0000")) northward (b .latitude) t w (omega (arith, degrees-small northward (b .latitude) (omega (arith, r .latitude))))
-      ∙ ap (λ (x : ℕ). endsIn t (bearingText (bearingOf angle.South b)) (mayEnd (due.Angle angle.South) b x)) (last-at t 6 w)
+      ∙ ap (λ (x : ℕ). endsIn t (dueAngleText (dueAngle angle.South b)) (mayEnd (due.Angle angle.South) b x)) (last-at t 6 w)
   angle-stands angle.North w =
       corner-stands (form 2 (ascii "0000")) northward (b .latitude + 1) t w (omega (arith, degrees-small northward (b .latitude + 1) (omega (arith, r .latitude))))
-      ∙ ap (λ (x : ℕ). endsIn t (bearingText (bearingOf angle.North b)) (mayEnd (due.Angle angle.North) b x)) (last-at t 6 w)
+      ∙ ap (λ (x : ℕ). endsIn t (dueAngleText (dueAngle angle.North b)) (mayEnd (due.Angle angle.North) b x)) (last-at t 6 w)
   angle-stands angle.West w =
       corner-stands (form 3 (ascii "0000")) eastward (b .longitude) t w (omega (arith, degrees-small eastward (b .longitude) (omega (arith, r .longitude))))
-      ∙ ap (λ (x : ℕ). endsIn t (bearingText (bearingOf angle.West b)) (mayEnd (due.Angle angle.West) b x)) (last-at t 7 w)
+      ∙ ap (λ (x : ℕ). endsIn t (dueAngleText (dueAngle angle.West b)) (mayEnd (due.Angle angle.West) b x)) (last-at t 7 w)
   angle-stands angle.East w =
       corner-stands (form 3 (ascii "0000")) eastward (b .longitude + 1) t w (omega (arith, degrees-small eastward (b .longitude + 1) (omega (arith, r .longitude))))
-      ∙ ap (λ (x : ℕ). endsIn t (bearingText (bearingOf angle.East b)) (mayEnd (due.Angle angle.East) b x)) (last-at t 7 w)
+      ∙ ap (λ (x : ℕ). endsIn t (dueAngleText (dueAngle angle.East b)) (mayEnd (due.Angle angle.East) b x)) (last-at t 7 w)
 
 series-stands : (level : ℕ) (t : List ℕ) → level < 3 → isSeries level t ≡ has t 0 (ascii "DTED" ++ digitsOf 1 level)
 unfolding places

@@ -1,18 +1,43 @@
--- `acc`: the code's table is the last six fields of the definition's.
-use lib.Dec.{lit≤}
-use Rattle.fields.proofs.Records.{record-row}
+-- `acc`: the arm of each row is that row of the definition.
 use Rattle.fields.proofs.acc.Statement.{statement}
 use Rattle.fields.proofs.acc.Tie as tie
-use borrow.Author.Needs.{needs}
+use Prim.Native.Nat.{ℕ, _+_, _<_, _≤_}
+use Rattle.fields.specs.Table.{fieldAt}
+use mathlib.Core.Path.{_≡_, ap}
+use native.Mathlib.Omega.{arith}
+use Rattle.fields.proofs.LastRow.{past}
 
-mul-result : tie.Need-mul-result
-mul-result c = search needs
-
-array-copy-out-result : tie.Need-array-copy-out-result
-array-copy-out-result c = search needs
+last-row : (i : ℕ) → 5 ≤ i → i < 6 → 39 ≡ 34 + i
+last-row i low high = omega arith
 
 returns : tie.Need-returns
-returns c = record-row 34 6 (c .before .args .i) _ (c .before .pre) (lit≤ tt)
+returns c = let e : 34 ≡ 34 + c .before .args .i = omega arith in ap fieldAt e
+
+returns-2 : tie.Need-returns-2
+returns-2 c = let e : 35 ≡ 34 + c .before .args .i = omega arith in ap fieldAt e
+
+returns-3 : tie.Need-returns-3
+returns-3 c = let e : 36 ≡ 34 + c .before .args .i = omega arith in ap fieldAt e
+
+returns-4 : tie.Need-returns-4
+returns-4 c = let e : 37 ≡ 34 + c .before .args .i = omega arith in ap fieldAt e
+
+returns-5 : tie.Need-returns-5
+returns-5 c = let e : 38 ≡ 34 + c .before .args .i = omega arith in ap fieldAt e
+
+returns-6 : tie.Need-returns-6
+returns-6 c =
+    let low = past (c .before .args .i) 5 (c .match .rest) in
+    let e : 39 ≡ 34 + c .before .args .i = last-row (c .before .args .i) low (c .before .pre) in
+    ap fieldAt e
 
 pub acc-spec : {M : Type 1} → statement M
-acc-spec = tie.close (tie.spec mul-result array-copy-out-result returns)
+acc-spec =
+    tie.close
+    (tie.spec
+    returns
+    returns-2
+    returns-3
+    returns-4
+    returns-5
+    returns-6)

@@ -4,8 +4,8 @@ use lib.ListN.{length}
 use mathlib.Core.Path.{sym, ap, _∙_}
 use Rattle.octets.specs.Digits.{digitsOf}
 use native.Mathlib.Omega.{arith}
-use Rattle.due.specs.Due.{formOf, bearingText, dueText, dueWidth}
-use Rattle.due.proofs.DueWidths.{bearing-wide}
+use Rattle.due.specs.Due.{formOf, dueAngleText, dueText, dueWidth}
+use Rattle.due.proofs.DueWidths.{due-angle-wide}
 use Rattle.due.proofs.put.put_due.Statement.{statement}
 use Rattle.due.proofs.put.put_due.Tie as tie
 
@@ -27,16 +27,16 @@ put-number-requires c κs = omega (arith, ap dueWidth (c .before .before .before
 enum-known-due-3 : tie.Need-enum-known-due-3
 enum-known-due-3 c = search needs
 
-bearing-of-requires : tie.Need-bearing-of-requires
-bearing-of-requires c κs = search needs
+due-angle-requires : tie.Need-due-angle-requires
+due-angle-requires c κs = search needs
 
-put-bearing-requires : tie.Need-put-bearing-requires
-put-bearing-requires c κs =
+put-due-angle-requires : tie.Need-put-due-angle-requires
+put-due-angle-requires c κs =
     let a = c .before .before .before .due3 .given in
     let start = c .before .before .before .before .before .before .before in
     record {
-      wide = start .pre .wide ∙ ap dueWidth (a .1) ∙ bearing-wide (a .0 .0) (start .args .basis)
-          ∙ ap (λ b. suc (formOf b .digits + length (formOf b .zeros))) (sym (c .bearing-of .ensures));
+      wide = start .pre .wide ∙ ap dueWidth (a .1) ∙ due-angle-wide (a .0 .0) (start .args .basis)
+          ∙ ap (λ b. suc (formOf b .digits + length (formOf b .zeros))) (sym (c .due-angle .ensures));
     }
 
 enum-told : tie.Need-enum-told
@@ -77,7 +77,7 @@ returns-3 : tie.Need-returns-3
 unfolding dueText
 returns-3 c =
     let a = c .before .before .before .before .before .before .due3 .given in
-    rw (a .1) (c .before .before .put-bearing .ensures ∙ ap bearingText (c .before .before .before .bearing-of .ensures))
+    rw (a .1) (c .before .before .put-due-angle .ensures ∙ ap dueAngleText (c .before .before .before .due-angle .ensures))
 
 same-length-4 : tie.Need-same-length-4
 same-length-4 c = search needs
@@ -103,8 +103,8 @@ put-due-spec =
     number-requires
     put-number-requires
     enum-known-due-3
-    bearing-of-requires
-    put-bearing-requires
+    due-angle-requires
+    put-due-angle-requires
     enum-told
     slice-aggregate-put
     put-requires

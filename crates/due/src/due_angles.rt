@@ -1,6 +1,6 @@
 // Angles that the origin makes due: which one stands in a field, and how it is written there.
 ghost use mathlib.Core.Path.{_≡_};
-ghost use Rattle.due.specs.Due.{again, corner, bearingOf};
+ghost use Rattle.due.specs.Due.{again, corner, dueAngle};
 ghost use Rattle.due.specs.Asked.{OriginInRange};
 use crate::Basis;
 use angles::Axis;
@@ -9,7 +9,7 @@ use angles::NORTHWARD;
 use fields::Angle;
 
 // An angle, the digits of its degrees, whether its seconds have a tenth, and whether it is a corner's.
-pub struct Bearing {
+pub struct DueAngle {
     pub axis: Axis,
     pub angle: usize,
     pub digits: usize,
@@ -18,10 +18,10 @@ pub struct Bearing {
 }
 
 // The origin, once more.
-fn again(axis: Axis, digits: usize, angle: usize) -> Bearing
+fn again(axis: Axis, digits: usize, angle: usize) -> DueAngle
     ensures { λ r. ⌜ r ≡ again axis digits angle ⌝ }
 {
-    Bearing {
+    DueAngle {
         axis,
         angle,
         digits,
@@ -31,10 +31,10 @@ fn again(axis: Axis, digits: usize, angle: usize) -> Bearing
 }
 
 // An edge of the cell, at a corner.
-fn corner(axis: Axis, digits: usize, angle: usize) -> Bearing
+fn corner(axis: Axis, digits: usize, angle: usize) -> DueAngle
     ensures { λ r. ⌜ r ≡ corner axis digits angle ⌝ }
 {
-    Bearing {
+    DueAngle {
         axis,
         angle,
         digits,
@@ -43,9 +43,10 @@ fn corner(axis: Axis, digits: usize, angle: usize) -> Bearing
     }
 }
 
-pub fn bearing_of(angle: Angle, basis: Basis) -> Bearing
+// The angle that is due in a field.
+pub fn due_angle(angle: Angle, basis: Basis) -> DueAngle
     requires { ⌜ OriginInRange (basis .latitude) (basis .longitude) ⌝ }
-    ensures { λ r. ⌜ r ≡ bearingOf angle basis ⌝ }
+    ensures { λ r. ⌜ r ≡ dueAngle angle basis ⌝ }
 {
     match angle {
         Angle::OriginLatitude => again(NORTHWARD, 2, basis.latitude),

@@ -1,6 +1,6 @@
 use borrow.Author.Needs.{needs}
-use Rattle.due.proofs.bearings.bearing_of.Statement.{statement}
-use Rattle.due.proofs.bearings.bearing_of.Tie as tie
+use Rattle.due.proofs.due_angles.due_angle.Statement.{statement}
+use Rattle.due.proofs.due_angles.due_angle.Tie as tie
 
 -- /work/main/target/rlib/angles.rlib/interface/lang/src/lib.rt:2:30
 enum-told : tie.Need-enum-told
@@ -68,8 +68,8 @@ returns-5 c = rw (c .before .enum-told5 .given .1) (c .corner3 .ensures)
 returns-6 : tie.Need-returns-6
 returns-6 c = rw (c .before .before .enum-told6 .given .1) (c .corner4 .ensures)
 
-pub bearing-of-spec : {M : Type 1} → statement M
-bearing-of-spec =
+pub due-angle-spec : {M : Type 1} → statement M
+due-angle-spec =
     tie.close
     (tie.spec
     enum-told

@@ -1,8 +1,8 @@
 use borrow.Author.Needs.{needs}
-use Rattle.angles.proofs.may_turn.Statement.{statement}
-use Rattle.angles.proofs.may_turn.Tie as tie
-use Rattle.angles.proofs.may_turn.Reads as reads
-use Rattle.angles.proofs.may_turn.Lts as lts
+use Rattle.angles.proofs.may_carry.Statement.{statement}
+use Rattle.angles.proofs.may_carry.Tie as tie
+use Rattle.angles.proofs.may_carry.Reads as reads
+use Rattle.angles.proofs.may_carry.Lts as lts
 use Rattle.angles.proofs.degrees.Reads as degrees-reads
 use Rattle.octets.proofs.choices.both.Reads as both-reads
 use Rattle.octets.proofs.choices.either.Reads as either-reads
@@ -31,8 +31,8 @@ both-requires-2 c κs = search needs
 returns : tie.Need-returns
 returns c = cc
 
-pub may-turn-spec : {M : Type 1} → statement M
-may-turn-spec =
+pub may-carry-spec : {M : Type 1} → statement M
+may-carry-spec =
     tie.close
     (tie.spec
     degrees-requires
