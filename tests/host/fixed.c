@@ -273,6 +273,24 @@ static void run_field_cases(void) {
     }
 }
 
+/* Of two broken fields the one that is judged first is told: `cell_fields` has them in the order of judging. */
+static void two_fields_case(const void *context) {
+    (void)context;
+    name_case("two broken fields");
+    int64_t items[CELL_ITEMS];
+    make(0, 46, 7, 0, 0);
+    for (size_t first = 0; first < cell_field_count; first++)
+        for (size_t second = first + 1; second < cell_field_count; second++) {
+            uint8_t *one = cell.bytes + cell_fields[first].offset, *other = cell.bytes + cell_fields[second].offset;
+            uint8_t kept = *one, kept_too = *other;
+            *one = *other = '~';
+            both_lend(cell.bytes, cell.length);
+            expect("the first of two", both_describe(items).bits, refusal(2, cell_fields[first].offset));
+            *one = kept;
+            *other = kept_too;
+        }
+}
+
 /* A whole cell with its free bytes at one value after the other says the same. */
 static void free_bytes_case(const void *context) {
     (void)context;
@@ -457,7 +475,8 @@ void run_fixed_cases(void) {
         both_side(side == 0 ? AT_START : AT_END);
         run_examples();
         run_number_cases();
-        run_case(free_bytes_case, NULL);
+        run_case(two_fields_case, NULL);
+    run_case(free_bytes_case, NULL);
     }
     run_field_cases();
     cell_free(&cell);

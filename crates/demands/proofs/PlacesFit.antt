@@ -54,7 +54,7 @@ use Rattle.sources.specs.Heights.{Heights}
 use Rattle.column_writer.proofs.PostsExactly.{PostsRow, differs, not-held, no-room, fine}
 use Rattle.column_writer.proofs.NumberExactly.{NumberRow, level-past, number-past, then-rest}
 use Rattle.edit.specs.Edit.{judgedEdit, editTold}
-use Rattle.edit.proofs.EditExactly as editing
+use Rattle.edit.proofs.EditExactly as edit-rows
 use Rattle.intake.specs.Intake.{orRest, judgeNext, ended, columnsFrom, takenBy, taken}
 
 -- the longest cell: no offset in a file that is judged lies past it
@@ -210,14 +210,14 @@ pub position-fits : (s : List ℕ) (latitude longitude : ℤ) → Fits (located 
 position-fits s latitude longitude = position-by s latitude longitude (located s latitude longitude) (position.row s latitude longitude)
 
 -- the edit
-edit-by : (s : List ℕ) (c p : ℕ) (z : ℤ) (x : Outcome) → editing.EditRow s c p z x → Fits (told act x)
-edit-by s c p z _ (editing.reaching r row) = refused-fits s c p (reach.Refused r) row r refl
-edit-by s c p z _ (editing.height r bad) = fits.refused 11 0 (lit< tt) (lit< tt) (lit< tt)
-edit-by s c p z _ (editing.done r a) = fits.done
+edit-by : (s : List ℕ) (c p : ℕ) (z : ℤ) (x : Outcome) → edit-rows.EditRow s c p z x → Fits (told act x)
+edit-by s c p z _ (edit-rows.reaching r row) = refused-fits s c p (reach.Refused r) row r refl
+edit-by s c p z _ (edit-rows.height r bad) = fits.refused 11 0 (lit< tt) (lit< tt) (lit< tt)
+edit-by s c p z _ (edit-rows.done r a) = fits.done
 
 pub edit-fits : (s : List ℕ) (c p : ℕ) (z : ℤ) → Fits (editTold s c p z)
 unfolding editTold
-edit-fits s c p z = edit-by s c p z (judgedEdit s c p z) (editing.row s c p z)
+edit-fits s c p z = edit-by s c p z (judgedEdit s c p z) (edit-rows.row s c p z)
 
 -- the writers
 pub posts-fits : (posts bytes : ℕ) (voids : Bool) (g : Heights) (room : ℕ) → posts ≤ most → bytes ≤ most

@@ -21,12 +21,12 @@ use Rattle.intake.proofs.intake.Reads as taking
 use Rattle.intake.proofs.intake.Kinds as taking-kinds
 use Rattle.intake.proofs.end.Reads as ending
 use Rattle.intake.proofs.end.Kinds as ending-kinds
-use Rattle.lookup.proofs.reach.reach.Reads as reaching
-use Rattle.lookup.proofs.reach.reach.Kinds as reaching-kinds
+use Rattle.lookup.proofs.reach.reach.Reads as reach-call
+use Rattle.lookup.proofs.reach.reach.Kinds as reach-kinds
 use Rattle.lookup.proofs.look_up.Reads as looking
 use Rattle.lookup.proofs.look_up.Kinds as looking-kinds
-use Rattle.position.proofs.locate.Reads as locating
-use Rattle.position.proofs.locate.Kinds as locating-kinds
+use Rattle.position.proofs.locate.Reads as locate-call
+use Rattle.position.proofs.locate.Kinds as locate-kinds
 use Rattle.steps.specs.Steps.{after}
 use Rattle.steps.proofs.Steps.new.Reads as new
 use Rattle.steps.proofs.Steps.new.Kinds as new-kinds
@@ -42,8 +42,8 @@ use Rattle.host_writers.proofs.cell.write.Reads as write-bytes
 use Rattle.host_writers.proofs.cell.write.Kinds as write-bytes-kinds
 use Rattle.host_writers.proofs.column.write.Reads as write-column-bytes
 use Rattle.host_writers.proofs.column.write.Kinds as write-column-bytes-kinds
-use Rattle.edit.proofs.edit.Reads as editing
-use Rattle.edit.proofs.edit.Kinds as editing-kinds
+use Rattle.edit.proofs.edit.Reads as edit-call
+use Rattle.edit.proofs.edit.Kinds as edit-kinds
 
 -- the number and place of a refusal, and the grid of a level and an edge
 pub number-settled : (κs : L.Lfts 0) (a : K.Dens κs number-kinds.ps) (r r' : _) (s s' : _) → number.Post κs a r s → number.Post κs a r' s' → r ≡ r'
@@ -69,13 +69,13 @@ intake-settled κs a r r' s s' p q = told-injective intake r r' (p ∙ sym q)
 pub end-settled : (κs : L.Lfts 0) (a : K.Dens κs ending-kinds.ps) (r r' : _) (s s' : _) → ending.Post κs a r s → ending.Post κs a r' s' → r ≡ r'
 end-settled κs a r r' s s' p q = told-injective intake r r' (p ∙ sym q)
 
-pub reach-settled : (κs : L.Lfts 1) (a : K.Dens κs reaching-kinds.ps) (r r' : _) (s s' : _) → reaching.Post κs a r s → reaching.Post κs a r' s' → r ≡ r'
+pub reach-settled : (κs : L.Lfts 1) (a : K.Dens κs reach-kinds.ps) (r r' : _) (s s' : _) → reach-call.Post κs a r s → reach-call.Post κs a r' s' → r ≡ r'
 reach-settled κs a r r' s s' p q = p ∙ sym q
 
 pub post-settled : (κs : L.Lfts 1) (a : K.Dens κs looking-kinds.ps) (r r' : _) (s s' : _) → looking.Post κs a r s → looking.Post κs a r' s' → r ≡ r'
 post-settled κs a r r' s s' p q = told-injective post r r' (p ∙ sym q)
 
-pub position-settled : (κs : L.Lfts 1) (a : K.Dens κs locating-kinds.ps) (r r' : _) (s s' : _) → locating.Post κs a r s → locating.Post κs a r' s' → r ≡ r'
+pub position-settled : (κs : L.Lfts 1) (a : K.Dens κs locate-kinds.ps) (r r' : _) (s s' : _) → locate-call.Post κs a r s → locate-call.Post κs a r' s' → r ≡ r'
 position-settled κs a r r' s s' p q = told-injective position r r' (p ∙ sym q)
 
 -- stepwise intake: the answer decides the state
@@ -108,6 +108,6 @@ pub write-column-bytes-settled : (κs : L.Lfts 2) (a : K.Dens κs write-column-b
     → write-column-bytes.Post κs a r s → write-column-bytes.Post κs a r' s' → (r ≡ r') × (now (s .0) ≡ now (s' .0))
 write-column-bytes-settled κs a r r' s s' p q = (told-injective act r r' (p .0 ∙ sym (q .0)), p .1 ∙ sym (q .1))
 
-pub edit-settled : (κs : L.Lfts 1) (a : K.Dens κs editing-kinds.ps) (r r' : _) (s s' : _) → editing.Post κs a r s → editing.Post κs a r' s'
+pub edit-settled : (κs : L.Lfts 1) (a : K.Dens κs edit-kinds.ps) (r r' : _) (s s' : _) → edit-call.Post κs a r s → edit-call.Post κs a r' s'
     → (r ≡ r') × (now (s .0) ≡ now (s' .0))
 edit-settled κs a r r' s s' p q = (told-injective act r r' (p .0 ∙ sym (q .0)), p .1 ∙ sym (q .1))

@@ -2,6 +2,7 @@
 ghost use mathlib.Core.Path.{_≡_};
 ghost use Prim.Native.Nat.{_+_, _≤_};
 ghost use lib.ListN.{length};
+ghost use Rattle.layout.specs.Grid.{headerBytes};
 ghost use Rattle.description.specs.Described.{accuracyAt, datumAt, itemsIn, described};
 use crate::Accuracies;
 use crate::Accuracy;
@@ -41,7 +42,7 @@ fn datum_at(s: &[u8], at: usize) -> Datum
 }
 
 fn items_in(s: &[u8]) -> Description
-    requires { ⌜ 3428 ≤ length (now s) ⌝ }
+    requires { ⌜ headerBytes ≤ length (now s) ⌝ }
     ensures { λ r. ⌜ r ≡ itemsIn (now (s .entry)) ⌝ }
 {
     Description {

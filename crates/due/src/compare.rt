@@ -13,7 +13,7 @@ use fields::Angle;
 use fields::Due;
 use octets::texts::differs;
 
-// No field has more bytes of which one string alone is due.
+// The longest text that is due: a longitude with seconds and their tenth.
 const WIDEST: usize = 10;
 
 // The index of the first byte that differs from what is due; how many there are, where none does.
@@ -27,6 +27,7 @@ pub fn first_wrong(due: Due, basis: Basis, field: &[u8]) -> usize
     differs(field, 0, &want[0..n])
 }
 
+// Whether a letter may end an angle where another is due: at a corner that H42 leaves free.
 fn corner_may_end(angle: Angle, basis: Basis, last: u8) -> bool
     requires { ⌜ OriginInRange (basis .latitude) (basis .longitude) ⌝ }
     ensures { λ r. ⌜ r ≡ mayEnd (Due.Angle angle) basis last ⌝ }

@@ -2,7 +2,7 @@
 -- stand and the last may be another (H42). So a slip in what is due cannot hide in a rule.
 use Prim.Native.Nat.{ℕ, suc, _+_, _-_, _%_, _<_}
 use native.Mathlib.Omega.{arith}
-use mathlib.Core.Path.{_≡_, sym, ap, _∙_}
+use mathlib.Core.Path.{_≡_, refl, sym, ap, _∙_}
 use mathlib.Core.Bool.{Bool, true, false}
 use mathlib.Core.List.{List, _++_}
 use lib.Dec.{eqb}
@@ -16,6 +16,11 @@ use Rattle.octets.proofs.DigitTexts.{has-digits}
 use Rattle.octets.proofs.TextLaws.{has-byte, has-append, text-self}
 use Rattle.angles.specs.Angles.{form, northward, eastward}
 use Rattle.angles.proofs.AngleTexts.{degrees-small, same-stands, corner-stands}
+use Rattle.layout.specs.declared.Grid.{Grid}
+use Rattle.fields.specs.declared.Text.{Text}
+use Rattle.fields.specs.declared.Text.the-variants as text
+use Rattle.fields.specs.declared.Number.{Number}
+use Rattle.fields.specs.declared.Number.the-variants as number
 use Rattle.fields.specs.declared.Angle.{Angle}
 use Rattle.fields.specs.declared.Angle.the-variants as angle
 use Rattle.fields.specs.declared.Due.{Due}
@@ -24,7 +29,7 @@ use Rattle.due.specs.Due.{textOf, numberOf, dueAngle, dueAngleText, angleWidth,
 use Rattle.due.specs.Asked.{OriginInRange}
 use Rattle.due.specs.declared.Basis.{Basis}
 use Rattle.due.proofs.DueWidths.{length-due}
-use Rattle.rules.specs.Rules.{isNumber, isSeries, angleHolds, dueHolds}
+use Rattle.rules.specs.Rules.{isText, isNumber, isOfGrid, isSeries, angleHolds, dueHolds}
 use Rattle.rules.specs.Asked.{BasisInRange}
 
 -- a text stands, or all of it but the last byte, and another may be the last
@@ -62,6 +67,22 @@ module _ (b : Basis) (r : OriginInRange (b .latitude) (b .longitude)) (t : List 
       corner-stands (form 3 (ascii "0000")) eastward (b .longitude + 1) t w (omega (arith, degrees-small eastward (b .longitude + 1) (omega (arith, r .longitude))))
       ∙ ap (λ (x : ℕ). endsIn t (dueAngleText (dueAngle angle.East b)) (mayEnd (due.Angle angle.East) b x)) (last-at t 7 w)
 
+text-stands : (x : Text) (t : List ℕ) → isText x t ≡ has t 0 (textOf x)
+text-stands text.Uhl1 t = refl
+text-stands text.Zero t = refl
+text-stands text.Dsi t = refl
+text-stands text.Prf89020b t = refl
+text-stands text.Wgs84 t = refl
+text-stands text.Orientation t = refl
+text-stands text.Acc t = refl
+text-stands text.ZeroZero t = refl
+
+of-grid : (n : Number) (g : Grid) (t : List ℕ) → isOfGrid n g t ≡ isNumber (numberOf n g) t
+of-grid number.LatitudeInterval g t = refl
+of-grid number.LongitudeInterval g t = refl
+of-grid number.Columns g t = refl
+of-grid number.Posts g t = refl
+
 series-stands : (level : ℕ) (t : List ℕ) → level < 3 → isSeries level t ≡ has t 0 (ascii "DTED" ++ digitsOf 1 level)
 unfolding places
 series-stands level t h =
@@ -71,10 +92,10 @@ series-stands level t h =
 module _ (b : Basis) (r : BasisInRange b) (t : List ℕ) where
   stands : (k : Due) → length t ≡ dueWidth k → dueHolds k b t ≡ endsIn t (dueText k b) (mayEnd k b (getD t (length t - 1) 0))
   unfolding dueHolds dueText
-  stands (due.Text x) w = plain (has t 0 (textOf x)) (eqb (suc (differ t 0 (textOf x))) (length t))
+  stands (due.Text x) w = text-stands x t ∙ plain (has t 0 (textOf x)) (eqb (suc (differ t 0 (textOf x))) (length t))
   stands (due.Number n) w =
       let v = numberOf n (b .grid) in
-      sym (has-digits t 0 4 v (r .numbers n) (omega arith)) ∙ plain (has t 0 (digitsOf 4 v)) (eqb (suc (differ t 0 (digitsOf 4 v))) (length t))
+      of-grid n (b .grid) t ∙ sym (has-digits t 0 4 v (r .numbers n) (omega arith)) ∙ plain (has t 0 (digitsOf 4 v)) (eqb (suc (differ t 0 (digitsOf 4 v))) (length t))
   stands (due.Angle a) w = angle-stands b (r .origin) t a w
   stands due.Letter w =
       let c = b .letter in

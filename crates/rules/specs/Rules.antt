@@ -9,6 +9,11 @@ use Rattle.octets.specs.Digits.{digitsAt, decimalAt}
 use Rattle.octets.specs.Texts.{ascii, has}
 use Rattle.angles.specs.Angles.{Form, form, northward, eastward, isAngle, degreesIn, letterIn, isOrigin, isSame, isCorner}
 use Rattle.angles.specs.declared.Axis.{Axis}
+use Rattle.layout.specs.declared.Grid.{Grid}
+use Rattle.fields.specs.declared.Text.{Text}
+use Rattle.fields.specs.declared.Text.the-variants as text
+use Rattle.fields.specs.declared.Number.{Number}
+use Rattle.fields.specs.declared.Number.the-variants as number
 use Rattle.fields.specs.declared.Angle.{Angle}
 use Rattle.fields.specs.declared.Angle.the-variants as angle
 use Rattle.fields.specs.declared.Item.{Item}
@@ -17,7 +22,7 @@ use Rattle.fields.specs.declared.Due.{Due}
 use Rattle.fields.specs.declared.Due.the-variants as due
 use Rattle.fields.specs.declared.Kind.{Kind}
 use Rattle.fields.specs.declared.Kind.the-variants as kind
-use Rattle.due.specs.Due.{textOf, numberOf, notAvailable, dueWidth}
+use Rattle.due.specs.Due.{notAvailable, dueWidth}
 use Rattle.due.specs.declared.Basis.{Basis}
 
 -- H4: the latitude interval of one of the three levels
@@ -67,9 +72,26 @@ itemHolds item.Datum t = isDatum t
 itemHolds (item.Accuracy whose) t = isAccuracy t
 itemHolds item.Partial t = digitsAt t 0 2
 
--- H5, H8, H9, H30 to H33: four digits that write a number
+-- H1, H10, H11, H16, H18, H29, H35, H40: the fixed texts
+abbrev pub isText : Text → List ℕ → Bool
+isText text.Uhl1 t = has t 0 (ascii "UHL1")
+isText text.Zero t = has t 0 (ascii "0")
+isText text.Dsi t = has t 0 (ascii "DSI")
+isText text.Prf89020b t = has t 0 (ascii "PRF89020B")
+isText text.Wgs84 t = has t 0 (ascii "WGS84")
+isText text.Orientation t = has t 0 (ascii "0000000.0")
+isText text.Acc t = has t 0 (ascii "ACC")
+isText text.ZeroZero t = has t 0 (ascii "00")
+
+-- H5, H8, H9, H30 to H33: four digits that write a number, that of the level and zone table
 abbrev pub isNumber : ℕ → List ℕ → Bool
 isNumber n t = both (digitsAt t 0 4) (eqb (decimalAt t 0 4) n)
+
+abbrev pub isOfGrid : Number → Grid → List ℕ → Bool
+isOfGrid number.LatitudeInterval g t = isNumber (g .interval .latitude) t
+isOfGrid number.LongitudeInterval g t = isNumber (g .interval .longitude) t
+isOfGrid number.Columns g t = isNumber (g .columns) t
+isOfGrid number.Posts g t = isNumber (g .posts) t
 
 -- H13: "DTED" and the level's digit
 abbrev pub isSeries : ℕ → List ℕ → Bool
@@ -94,8 +116,8 @@ angleHolds angle.East b t = isEdge (form 3 (ascii "0000")) eastward (b .longitud
 
 -- a field in which something is due
 unfoldable pub dueHolds : Due → Basis → List ℕ → Bool
-dueHolds (due.Text x) b t = has t 0 (textOf x)
-dueHolds (due.Number n) b t = isNumber (numberOf n (b .grid)) t
+dueHolds (due.Text x) b t = isText x t
+dueHolds (due.Number n) b t = isOfGrid n (b .grid) t
 dueHolds (due.Angle a) b t = angleHolds a b t
 dueHolds due.Letter b t = eqb (getD t 0 0) (b .letter)
 dueHolds due.Series b t = isSeries (b .grid .level) t
