@@ -1,14 +1,11 @@
 -- `acc`: the arm of each row is that row of the definition.
 use Rattle.fields.proofs.acc.Statement.{statement}
 use Rattle.fields.proofs.acc.Tie as tie
-use Prim.Native.Nat.{ℕ, _+_, _<_, _≤_}
+use Prim.Native.Nat.{ℕ, _+_}
 use Rattle.fields.specs.Table.{fieldAt}
 use mathlib.Core.Path.{_≡_, ap}
 use native.Mathlib.Omega.{arith}
-use Rattle.fields.proofs.LastRow.{past}
-
-last-row : (i : ℕ) → 5 ≤ i → i < 6 → 39 ≡ 34 + i
-last-row i low high = omega arith
+use Rattle.fields.proofs.LastRow.{last}
 
 returns : tie.Need-returns
 returns c = let e : 34 ≡ 34 + c .before .args .i = omega arith in ap fieldAt e
@@ -26,10 +23,7 @@ returns-5 : tie.Need-returns-5
 returns-5 c = let e : 38 ≡ 34 + c .before .args .i = omega arith in ap fieldAt e
 
 returns-6 : tie.Need-returns-6
-returns-6 c =
-    let low = past (c .before .args .i) 5 (c .match .rest) in
-    let e : 39 ≡ 34 + c .before .args .i = last-row (c .before .args .i) low (c .before .pre) in
-    ap fieldAt e
+returns-6 c = ap (λ (i : ℕ). fieldAt (34 + i)) (last (c .before .args .i) 5 (c .match .rest) (c .before .pre))
 
 pub acc-spec : {M : Type 1} → statement M
 acc-spec =

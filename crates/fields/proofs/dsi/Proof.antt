@@ -1,14 +1,11 @@
 -- `dsi`: the arm of each row is that row of the definition.
 use Rattle.fields.proofs.dsi.Statement.{statement}
 use Rattle.fields.proofs.dsi.Tie as tie
-use Prim.Native.Nat.{ℕ, _+_, _<_, _≤_}
+use Prim.Native.Nat.{ℕ, _+_}
 use Rattle.fields.specs.Table.{fieldAt}
 use mathlib.Core.Path.{_≡_, ap}
 use native.Mathlib.Omega.{arith}
-use Rattle.fields.proofs.LastRow.{past}
-
-last-row : (i : ℕ) → 23 ≤ i → i < 24 → 33 ≡ 10 + i
-last-row i low high = omega arith
+use Rattle.fields.proofs.LastRow.{last}
 
 returns : tie.Need-returns
 returns c = let e : 10 ≡ 10 + c .before .args .i = omega arith in ap fieldAt e
@@ -80,10 +77,7 @@ returns-23 : tie.Need-returns-23
 returns-23 c = let e : 32 ≡ 10 + c .before .args .i = omega arith in ap fieldAt e
 
 returns-24 : tie.Need-returns-24
-returns-24 c =
-    let low = past (c .before .args .i) 23 (c .match .rest) in
-    let e : 33 ≡ 10 + c .before .args .i = last-row (c .before .args .i) low (c .before .pre) in
-    ap fieldAt e
+returns-24 c = ap (λ (i : ℕ). fieldAt (10 + i)) (last (c .before .args .i) 23 (c .match .rest) (c .before .pre))
 
 pub dsi-spec : {M : Type 1} → statement M
 dsi-spec =

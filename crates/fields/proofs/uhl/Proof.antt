@@ -1,14 +1,10 @@
 -- `uhl`: the arm of each row is that row of the definition.
 use Rattle.fields.proofs.uhl.Statement.{statement}
 use Rattle.fields.proofs.uhl.Tie as tie
-use Prim.Native.Nat.{ℕ, _<_, _≤_}
 use Rattle.fields.specs.Table.{fieldAt}
 use mathlib.Core.Path.{_≡_, ap}
 use native.Mathlib.Omega.{arith}
-use Rattle.fields.proofs.LastRow.{past}
-
-last-row : (i : ℕ) → 9 ≤ i → i < 10 → 9 ≡ i
-last-row i low high = omega arith
+use Rattle.fields.proofs.LastRow.{last}
 
 returns : tie.Need-returns
 returns c = let e : 0 ≡ c .before .args .i = omega arith in ap fieldAt e
@@ -38,10 +34,7 @@ returns-9 : tie.Need-returns-9
 returns-9 c = let e : 8 ≡ c .before .args .i = omega arith in ap fieldAt e
 
 returns-10 : tie.Need-returns-10
-returns-10 c =
-    let low = past (c .before .args .i) 9 (c .match .rest) in
-    let e : 9 ≡ c .before .args .i = last-row (c .before .args .i) low (c .before .pre) in
-    ap fieldAt e
+returns-10 c = ap fieldAt (last (c .before .args .i) 9 (c .match .rest) (c .before .pre))
 
 pub uhl-spec : {M : Type 1} → statement M
 uhl-spec =
