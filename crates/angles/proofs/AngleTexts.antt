@@ -4,14 +4,14 @@ use native.Mathlib.Omega.{arith}
 use mathlib.Core.Path.{_≡_, refl, sym, ap, _∙_}
 use mathlib.Core.Bool.{Bool, true, false}
 use mathlib.Core.List.{List, [], _∷_, _++_, append-assoc}
-use lib.Dec.{eqb, leb}
+use lib.Dec.{eqb, leb, ltb}
 use lib.ListN.{length, getD, take, drop, length-append}
 use lib.Seq.{take-at, drop-at, take-append-seam, getD-at}
-use borrow.Author.Tests.{lt-ltb, le-leb, leb-true, leb-false, eq-eqb, ne-eqb, eqb-true}
-use Rattle.octets.specs.Choice.{both, either}
+use borrow.Author.Tests.{lt-ltb, le-leb, lt-leb, leb-true, leb-false, ltb-true, eq-eqb, ne-eqb, eqb-true}
+use Rattle.octets.specs.Choice.{pick, both, either}
 use Rattle.octets.specs.Texts.{differ, has}
 use Rattle.octets.specs.Digits.{digitsAt, decimalAt, digitsOf}
-use Rattle.octets.proofs.ChoiceLaws.{by-test}
+use Rattle.octets.proofs.ChoiceLaws.{both-true, by-test, clash}
 use Rattle.octets.proofs.DigitLaws.{length-digits, decimal-back, digits-are}
 use Rattle.octets.proofs.TextLaws.{part-has, has-append, ends-either}
 use Rattle.octets.proofs.DigitTexts.{has-digits}
@@ -19,47 +19,62 @@ use Rattle.angles.specs.Angles.{Form, degreesIn, letterIn, isAngle, isOr
 use Rattle.angles.specs.declared.Axis.{Axis}
 use Rattle.octets.proofs.PartLaws.{decimal-part, digits-part}
 
-pub length-angle : (f : Form) (a : Axis) (angle : ℕ) → length (angleText f a angle) ≡ suc (f .digits + length (f .zeros))
-unfolding angleText
-length-angle f a angle = simp length-append (omega (arith, length-digits (f .digits) (degreesOf a angle)))
+-- degrees, the zeros after them, and a letter
+abbrev pub named : Form → ℕ → ℕ → List ℕ
+named f degrees letter = digitsOf (f .digits) degrees ++ f .zeros ++ (letter ∷ [])
 
-module _ (f : Form) (a : Axis) (angle : ℕ) where
+module _ (f : Form) (degrees letter : ℕ) where
+  pub length-named : length (named f degrees letter) ≡ suc (f .digits + length (f .zeros))
+  length-named = simp length-append (omega (arith, length-digits (f .digits) degrees))
+
   -- the digits in front, the zeros after them, and the letter at the end
-  digits-front : take (f .digits) (drop 0 (angleText f a angle)) ≡ digitsOf (f .digits) (degreesOf a angle)
-  unfolding angleText
-  digits-front =
-      let ds = digitsOf (f .digits) (degreesOf a angle) in
-      rw append-assoc (take-at ds (f .zeros ++ (letterOf a angle ∷ [])) (f .digits) (length-digits (f .digits) (degreesOf a angle)))
+  digits-front : take (f .digits) (drop 0 (named f degrees letter)) ≡ digitsOf (f .digits) degrees
+  digits-front = rw append-assoc (take-at (digitsOf (f .digits) degrees) (f .zeros ++ (letter ∷ [])) (f .digits) (length-digits (f .digits) degrees))
 
-  zeros-behind : take (length (f .zeros)) (drop (f .digits) (angleText f a angle)) ≡ f .zeros
-  unfolding angleText
+  zeros-behind : take (length (f .zeros)) (drop (f .digits) (named f degrees letter)) ≡ f .zeros
   zeros-behind =
-      let ds = digitsOf (f .digits) (degreesOf a angle) in
-      rw (append-assoc, drop-at ds (f .zeros ++ (letterOf a angle ∷ [])) (f .digits) (length-digits (f .digits) (degreesOf a angle)))
-      (take-append-seam (f .zeros) (letterOf a angle ∷ []))
+      rw (append-assoc, drop-at (digitsOf (f .digits) degrees) (f .zeros ++ (letter ∷ [])) (f .digits) (length-digits (f .digits) degrees))
+      (take-append-seam (f .zeros) (letter ∷ []))
+
+  pub letter-named : letterIn f (named f degrees letter) ≡ letter
+  letter-named =
+      let ds = digitsOf (f .digits) degrees in
+      let n : length (ds ++ f .zeros) ≡ f .digits + length (f .zeros) = simp (length-append, length-digits (f .digits) degrees) in
+      getD-at (ds ++ f .zeros) letter [] 0 (f .digits + length (f .zeros)) n
+
+  pub degrees-named : degrees < 10 ^ f .digits → degreesIn f (named f degrees letter) ≡ degrees
+  degrees-named h =
+      decimal-part (named f degrees letter) 0 (f .digits)
+      ∙ ap (λ (t : List ℕ). decimalAt t 0 (f .digits)) digits-front
+      ∙ decimal-back (f .digits) degrees h
+
+  pub named-is : isAngle f (named f degrees letter) ≡ true
+  named-is =
+      let l = length-named in
+      let e : digitsAt (named f degrees letter) 0 (f .digits) ≡ true =
+      digits-part (named f degrees letter) 0 (f .digits)
+      ∙ ap (λ (t : List ℕ). digitsAt t 0 (f .digits)) digits-front
+      ∙ digits-are (f .digits) degrees
+      in
+      rw e (part-has (named f degrees letter) (f .digits) (f .zeros) (omega arith) zeros-behind)
+
+-- and so of an angle's text
+module _ (f : Form) (a : Axis) (angle : ℕ) where
+  pub length-angle : length (angleText f a angle) ≡ suc (f .digits + length (f .zeros))
+  unfolding angleText
+  length-angle = length-named f (degreesOf a angle) (letterOf a angle)
 
   pub letter-back : letterIn f (angleText f a angle) ≡ letterOf a angle
   unfolding angleText
-  letter-back =
-      let ds = digitsOf (f .digits) (degreesOf a angle) in
-      let n : length (ds ++ f .zeros) ≡ f .digits + length (f .zeros) = simp (length-append, length-digits (f .digits) (degreesOf a angle)) in
-      getD-at (ds ++ f .zeros) (letterOf a angle) [] 0 (f .digits + length (f .zeros)) n
+  letter-back = letter-named f (degreesOf a angle) (letterOf a angle)
 
   pub degrees-back : degreesOf a angle < 10 ^ f .digits → degreesIn f (angleText f a angle) ≡ degreesOf a angle
-  degrees-back h =
-      decimal-part (angleText f a angle) 0 (f .digits)
-      ∙ ap (λ (t : List ℕ). decimalAt t 0 (f .digits)) digits-front
-      ∙ decimal-back (f .digits) (degreesOf a angle) h
+  unfolding angleText
+  degrees-back = degrees-named f (degreesOf a angle) (letterOf a angle)
 
   pub angle-is : isAngle f (angleText f a angle) ≡ true
-  angle-is =
-      let l = length-angle f a angle in
-      let e : digitsAt (angleText f a angle) 0 (f .digits) ≡ true =
-      digits-part (angleText f a angle) 0 (f .digits)
-      ∙ ap (λ (t : List ℕ). digitsAt t 0 (f .digits)) digits-front
-      ∙ digits-are (f .digits) (degreesOf a angle)
-      in
-      rw e (part-has (angleText f a angle) (f .digits) (f .zeros) (omega arith) zeros-behind)
+  unfolding angleText
+  angle-is = named-is f (degreesOf a angle) (letterOf a angle)
 
 module _ (a : Axis) (angle : ℕ) where
   pub degrees-small : angle ≤ a .most + a .most → degreesOf a angle ≤ a .most
@@ -89,6 +104,41 @@ module _ (a : Axis) (angle : ℕ) where
         le-leb 1 (a .most - angle) (omega arith),
         le-leb (a .most - angle) (a .most) (omega arith),
       ))
+
+-- the degrees of an origin, by whether its letter is the one side's or the other's
+side : (n most : ℕ) (plus minus : Bool) → (plus ≡ true → minus ≡ false)
+    → either (both plus (ltb n most)) (both minus (both (leb 1 n) (leb n most))) ≡ true → pick plus (most + n) (most - n) < most + most
+side n most true minus apart t =
+    by-test (ltb n most)
+    (λ w. omega (arith, ltb-true n most w))
+    (λ w. clash (both-true minus (both (leb 1 n) (leb n most)) (rw w at t) .0) (apart refl))
+side n most false minus apart t =
+    let within = both-true (leb 1 n) (leb n most) (both-true minus (both (leb 1 n) (leb n most)) t .1) in
+    omega (arith, leb-true 1 n (within .0), leb-true n most (within .1))
+
+-- an origin lies within its axis
+pub origin-below : (a : Axis) (degrees letter : ℕ) → (a .plus ≡ a .minus → ⊥) → isOrigin a degrees letter ≡ true
+    → angleOf a degrees letter < a .most + a .most
+origin-below a degrees letter apart =
+    side degrees (a .most) (eqb letter (a .plus)) (eqb letter (a .minus))
+    (λ t. ne-eqb letter (a .minus) (λ q. apart (sym (eqb-true letter (a .plus) t) ∙ q)))
+
+-- and its degrees and letter are those of the angle that they say
+pub origin-same : (a : Axis) (degrees letter : ℕ) → isOrigin a degrees letter ≡ true → isSame a (angleOf a degrees letter) degrees letter ≡ true
+origin-same a degrees letter e =
+    by-test (eqb letter (a .plus))
+    (λ p.
+    let over = le-leb (a .most) (a .most + degrees) (omega arith) in
+    let back : a .most + degrees - a .most ≡ degrees = omega arith in
+    rw (p, over, back, eq-eqb degrees degrees refl) p)
+    (λ p.
+    let m = both-true (eqb letter (a .minus)) (both (leb 1 degrees) (leb degrees (a .most))) (rw p at e) in
+    let within = both-true (leb 1 degrees) (leb degrees (a .most)) (m .1) in
+    let low = leb-true 1 degrees (within .0) in
+    let high = leb-true degrees (a .most) (within .1) in
+    let under = lt-leb (a .most) (a .most - degrees) (omega arith) in
+    let back : a .most - (a .most - degrees) ≡ degrees = omega arith in
+    rw (p, under, back, eq-eqb degrees degrees refl) (m .0))
 
 -- an angle's rule in the words of its text: the text stands, or all of it but the letter, and another letter may
 either-false : (b : Bool) → either b false ≡ b

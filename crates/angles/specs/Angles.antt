@@ -60,11 +60,15 @@ isSame a angle degrees letter = both (eqb degrees (degreesOf a angle)) (eqb lett
 abbrev pub eitherLetter : Axis → ℕ → Bool
 eitherLetter a degrees = either (eqb degrees 0) (both (eqb (a .most) 180) (eqb degrees 180))
 
+-- one of the axis's two letters
+abbrev pub isSide : Axis → ℕ → Bool
+isSide a letter = either (eqb letter (a .plus)) (eqb letter (a .minus))
+
 abbrev pub isCorner : Axis → ℕ → ℕ → ℕ → Bool
 isCorner a angle degrees letter =
     both (eqb degrees (degreesOf a angle))
     (either (eqb letter (letterOf a angle))
-    (both (eitherLetter a degrees) (either (eqb letter (a .plus)) (eqb letter (a .minus)))))
+    (both (eitherLetter a degrees) (isSide a letter)))
 
 -- W3: an angle in its form: its degrees, the zeros after them, and its letter
 unfoldable pub angleText : Form → Axis → ℕ → List ℕ
@@ -72,4 +76,4 @@ angleText f a angle = digitsOf (f .digits) (degreesOf a angle) ++ f .zeros ++ (l
 
 -- H42: a letter that may stand at the end of a corner at this angle, whatever its own is
 abbrev pub mayCarry : Axis → ℕ → ℕ → Bool
-mayCarry a angle letter = both (eitherLetter a (degreesOf a angle)) (either (eqb letter (a .plus)) (eqb letter (a .minus)))
+mayCarry a angle letter = both (eitherLetter a (degreesOf a angle)) (isSide a letter)

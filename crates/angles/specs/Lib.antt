@@ -1,2 +1,3 @@
 -- Whole-degree angles, as headers write them.
 pub mod Angles
+pub mod Asked

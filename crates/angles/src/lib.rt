@@ -2,7 +2,8 @@
 ghost use mathlib.Core.Path.{_≡_};
 ghost use Prim.Native.Nat.{suc, _+_};
 ghost use lib.ListN.{length};
-ghost use Rattle.angles.specs.Angles.{form, degreesOf, letterOf, isOrigin, mayCarry, angleText};
+ghost use Rattle.angles.specs.Asked.{FewDegrees};
+ghost use Rattle.angles.specs.Angles.{form, angleOf, degreesOf, letterOf, isOrigin, eitherLetter, isSide, mayCarry, angleText};
 use octets::choices::both;
 use octets::choices::either;
 
@@ -46,6 +47,18 @@ pub fn letter(axis: Axis, angle: usize) -> u8
     }
 }
 
+// The angle of so many degrees to the side of a letter; its start where the axis has fewer.
+pub fn angle(axis: Axis, degrees: usize, letter: u8) -> usize
+    requires { ⌜ FewDegrees axis degrees ⌝ }
+    ensures { λ r. ⌜ r ≡ angleOf axis degrees letter ⌝ }
+{
+    let most = axis.most;
+    if letter == axis.plus {
+        return most + degrees;
+    }
+    if degrees <= most { most - degrees } else { 0 }
+}
+
 // Whether degrees and letter are those of an origin.
 pub fn is_origin(axis: Axis, degrees: usize, letter: u8) -> bool
     ensures { λ r. ⌜ r ≡ isOrigin axis degrees letter ⌝ }
@@ -58,13 +71,28 @@ pub fn is_origin(axis: Axis, degrees: usize, letter: u8) -> bool
     either(plus, minus)
 }
 
-// Whether a letter may stand at the end of a corner at this angle, whatever its own is: at 0 degrees, and at longitude 180.
-pub fn may_carry(axis: Axis, angle: usize, side: u8) -> bool
-    ensures { λ r. ⌜ r ≡ mayCarry axis angle side ⌝ }
+// Whether a corner at so many degrees may carry either letter: at 0 degrees, and at longitude 180.
+pub fn either_letter(axis: Axis, degrees: usize) -> bool
+    ensures { λ r. ⌜ r ≡ eitherLetter axis degrees ⌝ }
 {
-    let found = degrees(axis, angle);
-    let free = either(found == 0, both(axis.most == 180, found == 180));
-    both(free, either(side == axis.plus, side == axis.minus))
+    either(degrees == 0, both(axis.most == 180, degrees == 180))
+}
+
+// Whether a byte is a letter of the axis.
+pub fn is_side(axis: Axis, letter: u8) -> bool
+    ensures { λ r. ⌜ r ≡ isSide axis letter ⌝ }
+{
+    either(letter == axis.plus, letter == axis.minus)
+}
+
+// Whether a letter may stand at the end of a corner at this angle, whatever its own is.
+pub fn may_carry(axis: Axis, angle: usize, letter: u8) -> bool
+    ensures { λ r. ⌜ r ≡ mayCarry axis angle letter ⌝ }
+{
+    both(
+        either_letter(axis, degrees(axis, angle)),
+        is_side(axis, letter),
+    )
 }
 
 // Degrees in so many digits, zeros for what is below a degree, and the letter, over the whole field.

@@ -1,10 +1,10 @@
 -- `told` is injective: what an answer tells gives the answer back, so a promise about what is told settles the answer.
 use Prim.Native.Nat.{ℕ, _<_}
 use mathlib.Core.Path.{_≡_, refl, sym, ap, _∙_}
-use mathlib.Core.List.{List, [], _∷_}
+use mathlib.Core.List.{List, [], _∷_, _++_}
 use lib.Dec.{eqb, lit<}
 use lib.IntN.{ℤ}
-use lib.ListN.{getD}
+use lib.ListN.{getD, replicate}
 use Rattle.octets.specs.Choice.{pick}
 use Rattle.answers.specs.Told.{Told, refused, said, valueAt, countAt, numbered, numberTold, placeTold, Kind, intake, post, position, act, Answer, told}
 use Rattle.answers.specs.declared.Refusal.{Refusal}
@@ -14,12 +14,12 @@ use Rattle.answers.specs.declared.Reading.the-variants as reading
 use Rattle.answers.specs.declared.Located.the-variants as located
 use Rattle.answers.specs.declared.Outcome.the-variants as outcome
 
--- the refusals in the order of their numbers, each at this place; number 0 stands for none
+-- the refusals in the order of their numbers, each at this place; a number that none has is OffGrid's here
 abbrev refusals : ℕ → List Refusal
 refusals place =
     because.OffGrid
     ∷ because.Short place
-    ∷ because.Field place
+    ∷ because.OffGrid
     ∷ because.Cut place
     ∷ because.Preamble place
     ∷ because.Checksum place
@@ -30,7 +30,11 @@ refusals place =
     ∷ because.GridLength place
     ∷ because.Height place
     ∷ because.Room place
-    ∷ []
+    ∷ (replicate 8 because.OffGrid
+    ++ (because.FieldImpossible place
+    ∷ because.FieldContradicts place
+    ∷ because.FieldOffTable place
+    ∷ []))
 
 -- a refusal as an answer of each kind
 abbrev refusedAs : (k : Kind) → Refusal → Answer k
@@ -60,7 +64,6 @@ shown : (r : Refusal)
     × ((getD (refusals (placeTold (numbered r))) (numberTold (numbered r)) because.OffGrid ≡ r)
     × ((0 < numberTold (numbered r)) × (numberTold (numbered r) < 256)))
 shown (because.Short n) = (refl, (refl, (lit< tt, lit< tt)))
-shown (because.Field n) = (refl, (refl, (lit< tt, lit< tt)))
 shown (because.Cut n) = (refl, (refl, (lit< tt, lit< tt)))
 shown (because.Preamble n) = (refl, (refl, (lit< tt, lit< tt)))
 shown (because.Checksum n) = (refl, (refl, (lit< tt, lit< tt)))
@@ -71,6 +74,9 @@ shown (because.Item n) = (refl, (refl, (lit< tt, lit< tt)))
 shown (because.GridLength n) = (refl, (refl, (lit< tt, lit< tt)))
 shown (because.Height n) = (refl, (refl, (lit< tt, lit< tt)))
 shown (because.Room n) = (refl, (refl, (lit< tt, lit< tt)))
+shown (because.FieldImpossible n) = (refl, (refl, (lit< tt, lit< tt)))
+shown (because.FieldContradicts n) = (refl, (refl, (lit< tt, lit< tt)))
+shown (because.FieldOffTable n) = (refl, (refl, (lit< tt, lit< tt)))
 
 pub refusal-told : (r : Refusal) → numbered r ≡ refused (numberTold (numbered r)) (placeTold (numbered r))
 refusal-told r = shown r .0

@@ -6,8 +6,6 @@ ghost use Rattle.answers.specs.Told.{numbered, refused};
 pub enum Refusal {
     // fewer bytes than the headers: the length
     Short(usize),
-    // a header field breaks its rule: its offset
-    Field(usize),
     // a column is not there whole: its offset
     Cut(usize),
     // a preamble field is wrong: its offset
@@ -28,6 +26,12 @@ pub enum Refusal {
     Height(usize),
     // the output is too short: the length due
     Room(usize),
+    // a header field has bytes that no accepted header has there: the offset of the first wrong one
+    FieldImpossible(usize),
+    // a header field goes against another field: as above
+    FieldContradicts(usize),
+    // an interval or a count goes against the level and zone table: as above
+    FieldOffTable(usize),
 }
 
 // What intake answers, whole or step by step.
@@ -78,7 +82,6 @@ pub fn number(refusal: Refusal) -> Numbered
 {
     match refusal {
         Refusal::Short(length) => Numbered(1, length),
-        Refusal::Field(at) => Numbered(2, at),
         Refusal::Cut(at) => Numbered(3, at),
         Refusal::Preamble(at) => Numbered(4, at),
         Refusal::Checksum(at) => Numbered(5, at),
@@ -89,5 +92,8 @@ pub fn number(refusal: Refusal) -> Numbered
         Refusal::GridLength(due) => Numbered(10, due),
         Refusal::Height(index) => Numbered(11, index),
         Refusal::Room(due) => Numbered(12, due),
+        Refusal::FieldImpossible(at) => Numbered(21, at),
+        Refusal::FieldContradicts(at) => Numbered(22, at),
+        Refusal::FieldOffTable(at) => Numbered(23, at),
     }
 }

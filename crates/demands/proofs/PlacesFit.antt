@@ -30,10 +30,12 @@ use Rattle.posts.proofs.PostWords.{up-in-range, down-in-range}
 use Rattle.posts.proofs.Readings.{Reads}
 use Rattle.posts.proofs.Readings as reads
 use Rattle.fields.specs.Table.{fieldAt}
-use Rattle.headers.specs.Judged.{judged, factsIn, frameOf, frameIn, Follows}
+use Rattle.headers.specs.Basis.{basisIn}
+use Rattle.headers.specs.Judged.{broken, judged, factsIn, frameOf, frameIn, Follows}
 use Rattle.headers.specs.declared.JudgedHeaders.{JudgedHeaders}
 use Rattle.headers.specs.declared.JudgedHeaders.the-variants as headers
 use Rattle.headers.proofs.Exactly.{Answer, short, breaks, good, answered, follows-good}
+use Rattle.headers.proofs.BrokenPlace.{place-told}
 use Rattle.headers.proofs.FirstFour.{good-facts}
 use Rattle.headers.proofs.TableRows.{row}
 use Rattle.columns.specs.Judged.{judgedColumn, RefusedIn}
@@ -88,8 +90,9 @@ height-fits (negsuc n) e = omega (arith, leb-true (suc n) 12000 (sym (down-in-ra
 headers-by : (s : List ℕ) (j : JudgedHeaders) → Answer s j → (r : Refusal) → j ≡ headers.Refused r → placeTold (numbered r) ≤ most
 headers-by s _ (short h) r e = let same : because.Short (length s) ≡ r = cc in subst (λ (x : Refusal). placeTold (numbered x) ≤ most) same (omega arith)
 headers-by s _ (breaks i f) r e =
-    let same : because.Field (fieldAt i .0) ≡ r = cc in
-    subst (λ (x : Refusal). placeTold (numbered x) ≤ most) same (omega (arith, row i (f .below) .within))
+    let same : broken s (basisIn s) (fieldAt i) ≡ r = cc in
+    let p = place-told s i f in
+    subst (λ (x : Refusal). placeTold (numbered x) ≤ most) same (omega (arith, p .is, p .inside, row i (f .below) .within))
 headers-by s _ (good f) r e = let z : _≡_ {A = ℕ} 0 1 = cc in absurd (omega arith)
 
 pub headers-fit : (s : List ℕ) (r : Refusal) → judged s ≡ headers.Refused r → Fits (numbered r)

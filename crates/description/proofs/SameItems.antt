@@ -13,7 +13,7 @@ use Rattle.headers.specs.Basis.{basisIn}
 use Rattle.headers.specs.Judged.{judged}
 use Rattle.headers.specs.declared.JudgedHeaders.{JudgedHeaders}
 use Rattle.headers.specs.declared.JudgedHeaders.the-variants as judgement
-use Rattle.headers.proofs.FreeBytes.{SameFields, level-alike, basis-alike, free-bytes}
+use Rattle.headers.proofs.FreeBytes.{SameFields, items-same, level-alike, basis-alike, free-bytes}
 use Rattle.headers.proofs.SameHeaders.{same-fields}
 use Rattle.description.specs.Described.{accuracyAt, datumAt, itemsIn, describedBy, described}
 use Rattle.description.specs.declared.Described.the-variants.{As}
@@ -30,9 +30,9 @@ module _ (s t : List ℕ) where
   items-alike : SameFields s t → itemsIn s ≡ itemsIn t
   unfolding itemsIn basisIn
   items-alike same =
-      let basis = basis-alike s t same in
+      let basis = basis-alike s t (items-same s t same) in
       λ k. record {
-        level = level-alike s t same k;
+        level = level-alike s t (items-same s t same) k;
         latitude = basis k .latitude;
         longitude = basis k .longitude;
         security = basis k .letter;

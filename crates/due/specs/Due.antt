@@ -20,6 +20,22 @@ use Rattle.fields.specs.declared.Due.the-variants as due
 use Rattle.due.specs.declared.Basis.{Basis}
 use Rattle.due.specs.declared.due_angles.DueAngle.{DueAngle}
 
+-- where nothing is known: no grid, and the first origin of all, 90 S 180 W
+abbrev pub nothing : Basis
+nothing = record {
+  grid = record {
+    level = 0;
+    factor = 0;
+    interval = record { latitude = 0; longitude = 0 };
+    columns = 0;
+    posts = 0;
+    bytes = record { column = 0; cell = 0 };
+  };
+  latitude = 0;
+  longitude = 0;
+  letter = 0;
+}
+
 -- the fixed texts
 abbrev pub textOf : Text → List ℕ
 textOf text.Uhl1 = ascii "UHL1"

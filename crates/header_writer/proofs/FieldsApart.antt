@@ -10,7 +10,7 @@ use borrow.Author.Tests.{leb-true}
 use Rattle.octets.specs.Choice.{both, either}
 use Rattle.octets.specs.Tests.{every}
 use Rattle.octets.specs.Pastes.{pasted}
-use Rattle.octets.proofs.ChoiceLaws.{both-true}
+use Rattle.octets.proofs.ChoiceLaws.{both-true, either-case}
 use Rattle.octets.proofs.PasteLaws.{length-paste}
 use Rattle.fields.specs.Table.{uhl, fields, bytesIn, fieldAt}
 use Rattle.header_writer.specs.Written.{textFor, withFields}
@@ -40,10 +40,6 @@ Rows fs = (i : ℕ) → i < length fs → Row (getD fs i (uhl 1 1 (Item Partial)
 
 rows-after : (f : Field) (fs : List Field) → Rows (f ∷ fs) → Rows fs
 rows-after f fs rows i h = rows (suc i) (omega arith)
-
-either-case : {C : Type 0} (a b : Bool) → either a b ≡ true → (a ≡ true → C) → (b ≡ true → C) → C
-either-case true b e f g = f refl
-either-case false b e f g = g e
 
 module _ (d : Description) where
   -- one text put over what stands there

@@ -1,7 +1,7 @@
 -- What is judged good, and what is refused: exactly the headers that follow every rule, and else the first rule that is broken.
 use Prim.Native.Nat.{ℕ, _<_, _≤_}
 use native.Mathlib.Omega.{arith}
-use mathlib.Core.Path.{_≡_, refl, sym, _∙_, subst}
+use mathlib.Core.Path.{_≡_, refl, sym, ap, _∙_, subst}
 use mathlib.Core.Bool.{true, false}
 use mathlib.Core.List.{List}
 use lib.Dec.{ltb}
@@ -9,9 +9,15 @@ use lib.ListN.{length}
 use borrow.Author.Tests.{lt-ltb, le-ltb}
 use Rattle.octets.specs.Choice.{pick}
 use Rattle.octets.proofs.ChoiceLaws.{by-order, clash}
+use Rattle.answers.specs.declared.Refusal.{Refusal}
 use Rattle.answers.specs.declared.Refusal.the-variants as because
 use Rattle.headers.specs.Basis.{basisIn}
-use Rattle.fields.specs.Table.{fieldAt}
+use Rattle.answers.specs.Told.{numbered, numberTold}
+use Rattle.faults.specs.Fault.{fault}
+use Rattle.faults.proofs.FaultTold.{fault-tells}
+use Rattle.fields.specs.declared.Kind.{Kind}
+use Rattle.due.specs.declared.Basis.{Basis}
+use Rattle.fields.specs.Table.{bytesIn, fieldAt}
 use Rattle.headers.specs.Judged.{keeps, broken, factsIn, judgedBy, judged, Follows}
 use Rattle.headers.specs.declared.Facts.{Facts}
 use Rattle.headers.specs.declared.JudgedHeaders.{JudgedHeaders}
@@ -93,23 +99,27 @@ when-good s f j (good h) e = (h, cc)
 pub good-follows : (s : List ℕ) (f : Facts) → judged s ≡ Good f → Follows s × (f ≡ factsIn s)
 good-follows s f e = when-good s f (judged s) (answered s) e
 
--- the first rule that is broken is that of a row, and the place is the row's
-pub record FirstAt (s : List ℕ) (place : ℕ) : Type 0 where
+-- the first rule that is broken is that of a row, and the refusal is the row's
+pub record FirstTold (s : List ℕ) (r : Refusal) : Type 0 where
   pub row : ℕ
   pub first : First s row
-  pub at : fieldAt row .0 ≡ place
+  pub is : r ≡ broken s (basisIn s) (fieldAt row)
 
-when-field : (s : List ℕ) (p : ℕ) (j : JudgedHeaders) → Answer s j → j ≡ Refused (because.Field p) → FirstAt s p
-when-field s p j (short h) e = absurd (never (cc))
-when-field s p j (breaks i h) e = record { row = i; first = h; at = cc }
-when-field s p j (good h) e = absurd (never (cc))
+when-long : (s : List ℕ) (r : Refusal) (j : JudgedHeaders) → Answer s j → 3428 ≤ length s → j ≡ Refused r → FirstTold s r
+when-long s r j (short h) l e = absurd (omega arith)
+when-long s r j (breaks i h) l e = record { row = i; first = h; is = cc }
+when-long s r j (good h) l e = absurd (never (cc))
 
-pub broken-first : (s : List ℕ) (p : ℕ) → judged s ≡ Refused (because.Field p) → FirstAt s p
-broken-first s p e = when-field s p (judged s) (answered s) e
+pub broken-first : (s : List ℕ) (r : Refusal) → 3428 ≤ length s → judged s ≡ Refused r → FirstTold s r
+broken-first s r l e = when-long s r (judged s) (answered s) l e
+
+-- which is never 1
+never-short : (k : Kind) (b : Basis) (at : ℕ) (t : List ℕ) (n : ℕ) → fault k b at t ≡ because.Short n → ⊥
+never-short k b at t n e = omega (arith, fault-tells k b at t .low, ap (λ (r : Refusal). numberTold (numbered r)) e)
 
 when-short : (s : List ℕ) (n : ℕ) (j : JudgedHeaders) → Answer s j → j ≡ Refused (because.Short n) → (length s < 3428) × (n ≡ length s)
 when-short s n j (short h) e = (h, cc)
-when-short s n j (breaks i h) e = absurd (never (cc))
+when-short s n j (breaks i h) e = absurd (never-short (fieldAt i .2) (basisIn s) (fieldAt i .0) (bytesIn s (fieldAt i)) n (cc))
 when-short s n j (good h) e = absurd (never (cc))
 
 pub short-exactly : (s : List ℕ) (n : ℕ)

@@ -18,25 +18,52 @@ use Rattle.rules.proofs.GridNumbers.{number-small}
 use Rattle.angles.specs.Angles.{northward, eastward, isAngle, degreesIn, letterIn, isOrigin, angleOf}
 use Rattle.layout.specs.Zones.{edgeOf}
 use Rattle.headers.specs.Basis.{originAt, latitudeIn, longitudeIn, levelAt, basisIn}
-use Rattle.rules.specs.Rules.{originForm, itemHolds, dueHolds}
+use Rattle.due.specs.Due.{nothing, numberOf, dueText}
+use Rattle.fields.specs.declared.Number.{Number}
+use Rattle.fields.specs.declared.Number.the-variants as number
+use Rattle.faults.specs.Place.{wrongAt}
+use Rattle.rules.specs.Rules.{originForm, itemHolds, dueHolds, holds}
 use Rattle.rules.specs.Asked.{BasisInRange}
-use Rattle.fields.specs.Table.{fieldAt, placeOf}
+use Rattle.fields.specs.Table.{bytesIn, fieldAt, placeOf}
 use Rattle.fields.specs.declared.Item.the-variants.{Level, Latitude, Longitude, Partial}
 use Rattle.headers.specs.Judged.{keeps, factsIn, judged, Follows}
 use Rattle.angles.specs.declared.Axis.{Axis}
+use Rattle.angles.proofs.AngleTexts.{origin-below}
 use Rattle.due.specs.declared.Basis.{Basis}
 use Rattle.headers.specs.declared.Facts.{Facts}
 use Rattle.headers.specs.declared.JudgedHeaders.the-variants.{Good}
 use Rattle.layout.proofs.NearEdges.{edge-below}
 use Rattle.headers.proofs.Exactly.{good-follows}
 
-pub nothing-due : (s : List ℕ) (d e : Basis) (i : ℕ) → i < 4 → keeps s d (fieldAt i) ≡ keeps s e (fieldAt i)
+-- whatever is due, they are kept, and named where they break, alike
+pub rule-alike : (d e : Basis) (i : ℕ) → i < 4 → (u : List ℕ) → holds (fieldAt i .2) d u ≡ holds (fieldAt i .2) e u
 unfolding itemHolds dueHolds
-nothing-due s d e zero h = refl
-nothing-due s d e (suc zero) h = refl
-nothing-due s d e (suc (suc zero)) h = refl
-nothing-due s d e (suc (suc (suc zero))) h = refl
-nothing-due s d e (suc (suc (suc (suc i)))) h = absurd (omega arith)
+rule-alike d e zero h u = refl
+rule-alike d e (suc zero) h u = refl
+rule-alike d e (suc (suc zero)) h u = refl
+rule-alike d e (suc (suc (suc zero))) h u = refl
+rule-alike d e (suc (suc (suc (suc i)))) h u = absurd (omega arith)
+
+pub wrong-alike : (d e : Basis) (i : ℕ) → i < 4 → (u : List ℕ) → wrongAt (fieldAt i .2) d u ≡ wrongAt (fieldAt i .2) e u
+unfolding dueText
+wrong-alike d e zero h u = refl
+wrong-alike d e (suc zero) h u = refl
+wrong-alike d e (suc (suc zero)) h u = refl
+wrong-alike d e (suc (suc (suc zero))) h u = refl
+wrong-alike d e (suc (suc (suc (suc i)))) h u = absurd (omega arith)
+
+pub nothing-due : (s : List ℕ) (d e : Basis) (i : ℕ) → i < 4 → keeps s d (fieldAt i) ≡ keeps s e (fieldAt i)
+nothing-due s d e i h = rule-alike d e i h (bytesIn s (fieldAt i))
+
+-- so the code passes this for what is due, which is in range
+nothing-small : (n : Number) → numberOf n (nothing .grid) < 10000
+nothing-small number.LatitudeInterval = lit< tt
+nothing-small number.LongitudeInterval = lit< tt
+nothing-small number.Columns = lit< tt
+nothing-small number.Posts = lit< tt
+
+pub nothing-ranged : BasisInRange nothing
+nothing-ranged = record { origin = record { latitude = lit< tt; longitude = lit< tt }; level = lit< tt; numbers = nothing-small }
 
 -- there are three levels
 third : (a b : Bool) → pick a 0 (pick b 1 2) < 3
@@ -47,24 +74,6 @@ third false false = lit< tt
 pub level-below : (s : List ℕ) → levelAt s < 3
 unfolding levelAt
 level-below s = third (has s (placeOf Level) (ascii "0300")) (has s (placeOf Level) (ascii "0030"))
-
--- the degrees of an origin, by whether its letter is the one side's or the other's
-side : (n most : ℕ) (plus minus : Bool) → (plus ≡ true → minus ≡ false)
-    → either (both plus (ltb n most)) (both minus (both (leb 1 n) (leb n most))) ≡ true → pick plus (most + n) (most - n) < most + most
-side n most true minus apart t =
-    by-test (ltb n most)
-    (λ w. omega (arith, ltb-true n most w))
-    (λ w. clash (both-true minus (both (leb 1 n) (leb n most)) (rw w at t) .0) (apart refl))
-side n most false minus apart t =
-    let within = both-true (leb 1 n) (leb n most) (both-true minus (both (leb 1 n) (leb n most)) t .1) in
-    omega (arith, leb-true 1 n (within .0), leb-true n most (within .1))
-
--- an origin lies within its axis
-pub origin-below : (a : Axis) (degrees letter : ℕ) → (a .plus ≡ a .minus → ⊥) → isOrigin a degrees letter ≡ true
-    → angleOf a degrees letter < a .most + a .most
-origin-below a degrees letter apart =
-    side degrees (a .most) (eqb letter (a .plus)) (eqb letter (a .minus))
-    (λ t. ne-eqb letter (a .minus) (λ q. apart (sym (eqb-true letter (a .plus) t) ∙ q)))
 
 abbrev rulesOf : Axis → List ℕ → Bool
 rulesOf a t = isOrigin a (degreesIn originForm t) (letterIn originForm t)

@@ -4,6 +4,7 @@ pub mod BrokenRows
 pub mod Exactly
 pub mod FirstFour
 pub mod TwoParts
+pub mod BrokenPlace
 pub mod FreeBytes
 pub mod SameHeaders
 pub mod Voids

@@ -12,7 +12,8 @@ use Rattle.octets.specs.Tests.{every}
 use Rattle.octets.proofs.TestLaws.{each, below}
 use Rattle.fields.specs.Table.{bytesIn, fieldAt}
 use Rattle.rules.specs.Rules.{widthOf, holds}
-use Rattle.headers.specs.Judged.{keeps}
+use Rattle.faults.specs.Fault.{fault}
+use Rattle.headers.specs.Judged.{keeps, broken}
 use Rattle.due.specs.declared.Basis.{Basis}
 use Rattle.fields.specs.declared.Field.{Field}
 
@@ -37,7 +38,7 @@ row i h =
 lent : (s : List ℕ) (f : Field) → take (f .0 + f .1 - f .0) (drop (f .0) s) ≡ bytesIn s f
 lent s f = rw (add-sub-cancel-left (f .0) (f .1))
 
-bytes-long : (s : List ℕ) (f : Field) → f .0 + f .1 ≤ length s → length (bytesIn s f) ≡ f .1
+pub bytes-long : (s : List ℕ) (f : Field) → f .0 + f .1 ≤ length s → length (bytesIn s f) ≡ f .1
 bytes-long s f h = length-take-le (f .1) (drop (f .0) s) (rw (length-drop (f .0) s) (omega arith))
 
 -- a row of the table, and its bytes lent: as wide as its kind, and the test of its rule
@@ -50,3 +51,10 @@ module _ (s : List ℕ) (i : ℕ) (h : i < 40) (f : Field) (e : f ≡ fieldAt i)
 
   pub row-kept : (d : Basis) → holds (f .2) d (take (f .0 + f .1 - f .0) (drop (f .0) s)) ≡ keeps s d (fieldAt i)
   row-kept d = ap (holds (f .2) d) (lent s f) ∙ ap (keeps s d) e
+
+  -- within the headers, and the refusal where the rule is broken
+  pub row-within : 3428 ≤ length s → f .0 + length (take (f .0 + f .1 - f .0) (drop (f .0) s)) ≤ 3428
+  row-within long = let n = row-bytes long in omega (arith, row-is .within, row-is .wide)
+
+  pub row-broken : (d : Basis) → fault (f .2) d (f .0) (take (f .0 + f .1 - f .0) (drop (f .0) s)) ≡ broken s d (fieldAt i)
+  row-broken d = ap (fault (f .2) d (f .0)) (lent s f) ∙ ap (broken s d) e

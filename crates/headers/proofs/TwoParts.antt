@@ -1,5 +1,5 @@
 -- Judged in two parts: the first four rows with anything due, then the rest with what they make due.
-use Prim.Native.Nat.{ℕ, _<_, _≤_}
+use Prim.Native.Nat.{ℕ, _+_, _<_, _≤_}
 use native.Mathlib.Omega.{arith}
 use mathlib.Core.Path.{_≡_, refl, ap, _∙_}
 use mathlib.Core.Bool.{Bool}
@@ -8,17 +8,21 @@ use lib.Dec.{ltb}
 use lib.ListN.{length, drop}
 use borrow.Author.Tests.{lt-ltb, le-ltb}
 use Rattle.octets.specs.Choice.{pick}
+use Rattle.faults.specs.Fault.{kindFault, fault}
 use Rattle.headers.specs.Basis.{basisIn}
-use Rattle.fields.specs.Table.{fields, fieldAt}
+use Rattle.fields.specs.Table.{fields, bytesIn, fieldAt}
 use Rattle.headers.specs.Judged.{broken, factsIn, judgedBy, judged}
 use Rattle.due.specs.declared.Basis.{Basis}
 use Rattle.headers.specs.declared.JudgedHeaders.the-variants.{Good, Refused}
 use Rattle.headers.proofs.BrokenRows.{turn, firstIn, Found, found, judged-part, found-same}
-use Rattle.headers.proofs.FirstFour.{nothing-due, Fixed, fixed}
+use Rattle.headers.proofs.FirstFour.{nothing-due, wrong-alike, Fixed, fixed}
 
 -- the refusal of one of the first rows needs nothing due either
 broken-alike : (s : List ℕ) (d e : Basis) (i : ℕ) → i < 4 → broken s d (fieldAt i) ≡ broken s e (fieldAt i)
-broken-alike s d e i h = refl
+unfolding fault
+broken-alike s d e i h =
+    let f = fieldAt i in
+    ap (λ (into : ℕ). kindFault (f .2) (f .0 + into) (bytesIn s f)) (wrong-alike d e i h (bytesIn s f))
 
 module _ (s : List ℕ) (long : 3428 ≤ length s) where
   judged-long : judged s ≡ judgedBy s (basisIn s) fields

@@ -30,3 +30,9 @@ pub record RowsToJudge (s : List ℕ) (b : Basis) (from to : ℕ) : Type 0 where
   pub rows : to ≤ 40
   pub whole : headerBytes ≤ length s
   pub basis : BasisInRange b
+
+-- headers that are there whole, a row of the table, and a basis in range
+pub record RowToTell (s : List ℕ) (b : Basis) (row : ℕ) : Type 0 where
+  pub below : row < 40
+  pub whole : headerBytes ≤ length s
+  pub basis : BasisInRange b

@@ -1,4 +1,4 @@
--- How headers are judged: 1, then 2 with the first field that breaks its rule (rules N1 and N2).
+-- How headers are judged: 1, then the refusal of the first field that breaks its rule (rules N1, N21 to N23).
 use Prim.Native.Nat.{ℕ, _<_, _≤_}
 use mathlib.Core.Path.{_≡_}
 use mathlib.Core.Bool.{Bool, true, not}
@@ -15,6 +15,7 @@ use Rattle.fields.specs.Table.{fields, bytesIn, fieldAt, placeOf}
 use Rattle.fields.specs.declared.Item.the-variants.{Partial}
 use Rattle.headers.specs.Basis.{basisIn}
 use Rattle.rules.specs.Rules.{holds}
+use Rattle.faults.specs.Fault.{fault}
 use Rattle.due.specs.declared.Basis.{Basis}
 use Rattle.headers.specs.declared.Facts.{Facts}
 use Rattle.headers.specs.declared.JudgedHeaders.{JudgedHeaders}
@@ -25,9 +26,9 @@ use Rattle.fields.specs.declared.Field.{Field}
 abbrev pub keeps : List ℕ → Basis → Field → Bool
 keeps s b f = holds (f .2) b (bytesIn s f)
 
--- N2: the refusal of a field that does not. Number and place of a broken rule are chosen here alone
+-- N21 to N23: the refusal of a field that does not. Number and place of a broken rule are chosen here alone
 abbrev pub broken : List ℕ → Basis → Field → Refusal
-broken s b f = because.Field (f .0)
+broken s b f = fault (f .2) b (f .0) (bytesIn s f)
 
 -- the facts of headers that keep every rule
 unfoldable pub factsIn : List ℕ → Facts

@@ -6,7 +6,7 @@ ghost use Rattle.octets.specs.Scan.{scan};
 ghost use Rattle.fields.specs.Table.{fieldAt};
 ghost use Rattle.headers.specs.Basis.{basisIn};
 ghost use Rattle.headers.specs.Judged as by;
-ghost use Rattle.headers.specs.Asked.{RowsToJudge, LatitudeInRange};
+ghost use Rattle.headers.specs.Asked.{RowsToJudge, RowToTell, LatitudeInRange};
 use crate::Facts;
 use crate::JudgedHeaders;
 use crate::readings::level_at;
@@ -15,36 +15,16 @@ use angles::EASTWARD;
 use angles::NORTHWARD;
 use answers::Refusal;
 use due::Basis;
+use due::NOTHING;
 use fields::FIELDS;
-use fields::Field;
-use layout::Bytes;
 use layout::Frame;
-use layout::Grid;
 use layout::HEADER_BYTES;
-use layout::Interval;
 use layout::zones::near_edge;
 use octets::digits::decimal;
 use rules::kinds::keeps;
 
 // Level and origin stand in the first rows, in which nothing is due by them.
 const FIRST: usize = 4;
-
-const NOTHING: Basis = Basis {
-    grid: Grid {
-        level: 0,
-        factor: 0,
-        interval: Interval {
-            latitude: 0,
-            longitude: 0,
-        },
-        columns: 0,
-        posts: 0,
-        bytes: Bytes { column: 0, cell: 0 },
-    },
-    latitude: 0,
-    longitude: 0,
-    letter: 0,
-};
 
 // The first row from `from` on and below `to` whose field breaks its rule; `to` where none does.
 fn first_broken(s: &[u8], basis: Basis, from: usize, to: usize) -> usize
@@ -63,11 +43,16 @@ fn first_broken(s: &[u8], basis: Basis, from: usize, to: usize) -> usize
     to
 }
 
-// The refusal of a field that breaks its rule: number and place are chosen here alone.
-fn broken(s: &[u8], basis: Basis, field: Field) -> Refusal
-    ensures { λ r. ⌜ r ≡ by.broken (now (s .entry)) basis field ⌝ }
+// The refusal of a row whose field breaks its rule: number and place are chosen here alone.
+fn broken(s: &[u8], basis: Basis, row: usize) -> Refusal
+    requires { ⌜ RowToTell (now s) basis row ⌝ }
+    ensures { λ r. ⌜ r ≡ by.broken (now (s .entry)) basis (fieldAt row) ⌝ }
 {
-    Refusal::Field(field.0)
+    let field = fields::row(row);
+    let at = field.0;
+    let len = field.1;
+    let kind = field.2;
+    faults::broken(kind, basis, at, &s[at..at + len])
 }
 
 // The level, the origin and the security letter, once the first rows keep their rules.
@@ -96,12 +81,12 @@ pub fn judge(s: &[u8]) -> JudgedHeaders
     }
     let early = first_broken(s, NOTHING, 0, FIRST);
     if early < FIRST {
-        return JudgedHeaders::Refused(broken(s, NOTHING, fields::row(early)));
+        return JudgedHeaders::Refused(broken(s, NOTHING, early));
     }
     let basis = basis_in(s);
     let row = first_broken(s, basis, FIRST, FIELDS);
     if row < FIELDS {
-        return JudgedHeaders::Refused(broken(s, basis, fields::row(row)));
+        return JudgedHeaders::Refused(broken(s, basis, row));
     }
     let grid = basis.grid;
     JudgedHeaders::Good(Facts {

@@ -16,12 +16,7 @@ fn origin_in(axis: Axis, field: &[u8]) -> usize
     requires { ⌜ OriginField axis (now field) ⌝ }
     ensures { λ r. ⌜ r ≡ angleOf axis (degreesIn originForm (now (field .entry))) (letterIn originForm (now (field .entry))) ⌝ }
 {
-    let most = axis.most;
-    let degrees = decimal(field, 0, 3);
-    if field[7] == axis.plus {
-        return most + degrees;
-    }
-    if degrees <= most { most - degrees } else { 0 }
+    angles::angle(axis, decimal(field, 0, 3), field[7])
 }
 
 // The angle of an origin in its field of the UHL.

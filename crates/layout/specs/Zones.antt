@@ -3,6 +3,7 @@ use Prim.Native.Nat.{ℕ, _-_}
 use mathlib.Core.List.{List, [], _∷_}
 use lib.IntN.{ℤ, pos, negsuc}
 use lib.Dec.{leb, ltb}
+use lib.ListN.{getD}
 use Rattle.octets.specs.Choice.{pick}
 
 -- Z1: the whole-degree parallel nearer the equator: a for an origin latitude a of 0 or more, else -(a + 1).
@@ -18,6 +19,10 @@ edgeOf latitude = pick (leb 90 latitude) (latitude - 90) (89 - latitude)
 -- Z2: the near edges of each zone lie below its bound, and from the bound before on
 abbrev pub bounds : List ℕ
 bounds = 50 ∷ 70 ∷ 75 ∷ 80 ∷ 90 ∷ []
+
+-- and so the last near edge of each, zones counted from 0
+abbrev pub lastEdge : ℕ → ℕ
+lastEdge zone = getD bounds zone 0 - 1
 
 -- Z3: how many latitude intervals one longitude interval of each zone is
 abbrev pub factors : List ℕ

@@ -6,11 +6,28 @@ use mathlib.Core.Path.{_≡_, refl, sym, _∙_}
 use mathlib.Core.Bool.{Bool, true, false, false≢true}
 use lib.Dec.{eqb}
 use borrow.Author.Tests.{eqb-true, eqb-false}
-use Rattle.octets.specs.Choice.{both}
+use Rattle.octets.specs.Choice.{both, either}
 
 pub both-true : (a b : Bool) → both a b ≡ true → (a ≡ true) × (b ≡ true)
 both-true true b e = (refl, e)
 both-true false b e = absurd (false≢true e)
+
+pub both-is : (a b : Bool) → a ≡ true → b ≡ true → both a b ≡ true
+both-is true b e f = f
+both-is false b e f = e
+
+pub either-first : (a b : Bool) → a ≡ true → either a b ≡ true
+either-first true b e = refl
+either-first false b e = absurd (false≢true e)
+
+pub either-second : (a b : Bool) → b ≡ true → either a b ≡ true
+either-second true b e = refl
+either-second false b e = e
+
+-- by cases on which of two tests holds
+pub either-case : {C : Type 0} (a b : Bool) → either a b ≡ true → (a ≡ true → C) → (b ≡ true → C) → C
+either-case true b e f g = f refl
+either-case false b e f g = g e
 
 -- by cases on a test, with its outcome as an equation
 pub by-test : {C : Type 0} (b : Bool) → (b ≡ true → C) → (b ≡ false → C) → C

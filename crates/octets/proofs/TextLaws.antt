@@ -9,7 +9,7 @@ use mathlib.Core.List.{List, [], _∷_, _++_}
 use lib.Dec.{eqb, lit≤}
 use lib.ListN.{length, getD, take, drop, length-append}
 use lib.Seq.{drop-cons, drop-length, take-length}
-use borrow.Author.Tests.{eq-eqb, ne-eqb, eqb-true}
+use borrow.Author.Tests.{eq-eqb, ne-eqb, eqb-true, eqb-false}
 use Rattle.octets.specs.Choice.{pick, both, either}
 use Rattle.octets.specs.Texts.{differ, has}
 use Rattle.octets.proofs.ChoiceLaws.{by-test, same-test}
@@ -62,6 +62,26 @@ module _ (s : List ℕ) where
       let r : take (length ws) (drop (at + 1) s) ≡ ws = rw (add-one at) (cc) in
       let d = eqb-true (differ s (at + 1) ws) (length ws) (part-has (at + 1) ws (omega arith) r) in
       rw (eq-eqb (getD s at 0) w t) (eq-eqb (suc (differ s (at + 1) ws)) (suc (length ws)) (omega arith))
+
+-- what stands before the first byte that differs is the text's, and that byte is not
+module _ (s : List ℕ) where
+  pub differ-front : (at : ℕ) (want : List ℕ) → at + length want ≤ length s → take (differ s at want) (drop at s) ≡ take (differ s at want) want
+  unfolding differ
+  differ-front at [] h = refl
+  differ-front at (w ∷ ws) h =
+      by-test (eqb (getD s at 0) w)
+      (λ t. rw (t, drop-cons s at 0 (omega arith), ← add-one at) (λ k. eqb-true (getD s at 0) w t k ∷ differ-front (at + 1) ws (omega arith) k))
+      (λ t. rw t)
+
+  pub differ-there : (at : ℕ) (want : List ℕ) → differ s at want < length want → getD s (at + differ s at want) 0 ≡ getD want (differ s at want) 0 → ⊥
+  unfolding differ
+  differ-there at [] h e = omega arith
+  differ-there at (w ∷ ws) h e =
+      by-test (eqb (getD s at 0) w)
+      (λ t.
+      let next : at + suc (differ s (at + 1) ws) ≡ at + 1 + differ s (at + 1) ws = omega arith in
+      differ-there (at + 1) ws (omega (arith, rw t at h)) (rw (t, next) at e))
+      (λ t. eqb-false (getD s at 0) w t (rw (t, add-zero at) at e))
 
 -- a text stands in itself
 pub text-self : (t : List ℕ) → has t 0 t ≡ true

@@ -77,7 +77,7 @@ text-stands text.Orientation t = refl
 text-stands text.Acc t = refl
 text-stands text.ZeroZero t = refl
 
-of-grid : (n : Number) (g : Grid) (t : List ℕ) → isOfGrid n g t ≡ isNumber (numberOf n g) t
+pub of-grid : (n : Number) (g : Grid) (t : List ℕ) → isOfGrid n g t ≡ isNumber (numberOf n g) t
 of-grid number.LatitudeInterval g t = refl
 of-grid number.LongitudeInterval g t = refl
 of-grid number.Columns g t = refl

@@ -21,11 +21,11 @@ enum-known-refusal-5 c = search needs
 enum-known-refusal-6 : tie.Need-enum-known-refusal-6
 enum-known-refusal-6 c = search needs
 
-enum-known-refusal-7 : tie.Need-enum-known-refusal-7
-enum-known-refusal-7 c = search needs
-
 enum-told : tie.Need-enum-told
 enum-told c = search needs
+
+enum-known-refusal-7 : tie.Need-enum-known-refusal-7
+enum-known-refusal-7 c = search needs
 
 enum-known-refusal-8 : tie.Need-enum-known-refusal-8
 enum-known-refusal-8 c = search needs
@@ -38,6 +38,12 @@ enum-known-refusal-10 c = search needs
 
 enum-known-refusal-11 : tie.Need-enum-known-refusal-11
 enum-known-refusal-11 c = search needs
+
+enum-known-refusal-12 : tie.Need-enum-known-refusal-12
+enum-known-refusal-12 c = search needs
+
+enum-known-refusal-13 : tie.Need-enum-known-refusal-13
+enum-known-refusal-13 c = search needs
 
 returns : tie.Need-returns
 returns c = rw (c .before .refusal .given .1)
@@ -58,10 +64,10 @@ returns-6 : tie.Need-returns-6
 returns-6 c = rw (c .before .refusal6 .given .1)
 
 returns-7 : tie.Need-returns-7
-returns-7 c = rw (c .before .refusal7 .given .1)
+returns-7 c = rw (c .enum-told .given .1)
 
 returns-8 : tie.Need-returns-8
-returns-8 c = rw (c .enum-told .given .1)
+returns-8 c = rw (c .before .refusal7 .given .1)
 
 returns-9 : tie.Need-returns-9
 returns-9 c = rw (c .before .refusal8 .given .1)
@@ -75,6 +81,12 @@ returns-11 c = rw (c .before .refusal10 .given .1)
 returns-12 : tie.Need-returns-12
 returns-12 c = rw (c .before .refusal11 .given .1)
 
+returns-13 : tie.Need-returns-13
+returns-13 c = rw (c .before .refusal12 .given .1)
+
+returns-14 : tie.Need-returns-14
+returns-14 c = rw (c .before .refusal13 .given .1)
+
 pub number-spec : {M : Type 1} → statement M
 number-spec =
     tie.close
@@ -85,12 +97,14 @@ number-spec =
     enum-known-refusal-4
     enum-known-refusal-5
     enum-known-refusal-6
-    enum-known-refusal-7
     enum-told
+    enum-known-refusal-7
     enum-known-refusal-8
     enum-known-refusal-9
     enum-known-refusal-10
     enum-known-refusal-11
+    enum-known-refusal-12
+    enum-known-refusal-13
     returns
     returns-2
     returns-3
@@ -102,4 +116,6 @@ number-spec =
     returns-9
     returns-10
     returns-11
-    returns-12)
+    returns-12
+    returns-13
+    returns-14)

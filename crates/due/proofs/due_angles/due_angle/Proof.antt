@@ -1,29 +1,26 @@
+-- `due_angle`: one arm to an angle.
 use borrow.Author.Needs.{needs}
 use Rattle.due.proofs.due_angles.due_angle.Statement.{statement}
 use Rattle.due.proofs.due_angles.due_angle.Tie as tie
 
--- /work/main/target/rlib/angles.rlib/interface/lang/src/lib.rt:2:30
 enum-told : tie.Need-enum-told
 enum-told c = search needs
 
 again-requires : tie.Need-again-requires
 again-requires c κs = search needs
 
--- /work/main/target/rlib/angles.rlib/interface/lang/src/lib.rt:3:29
 enum-told-2 : tie.Need-enum-told-2
 enum-told-2 c = search needs
 
 again-requires-2 : tie.Need-again-requires-2
 again-requires-2 c κs = search needs
 
--- /work/main/target/rlib/angles.rlib/interface/lang/src/lib.rt:2:30
 enum-told-3 : tie.Need-enum-told-3
 enum-told-3 c = search needs
 
 corner-requires : tie.Need-corner-requires
 corner-requires c κs = search needs
 
--- /work/main/target/rlib/angles.rlib/interface/lang/src/lib.rt:2:30
 enum-told-4 : tie.Need-enum-told-4
 enum-told-4 c = search needs
 
@@ -33,14 +30,12 @@ add-corner c = search needs
 corner-requires-2 : tie.Need-corner-requires-2
 corner-requires-2 c κs = search needs
 
--- /work/main/target/rlib/angles.rlib/interface/lang/src/lib.rt:3:29
 enum-told-5 : tie.Need-enum-told-5
 enum-told-5 c = search needs
 
 corner-requires-3 : tie.Need-corner-requires-3
 corner-requires-3 c κs = search needs
 
--- /work/main/target/rlib/angles.rlib/interface/lang/src/lib.rt:3:29
 enum-told-6 : tie.Need-enum-told-6
 enum-told-6 c = search needs
 

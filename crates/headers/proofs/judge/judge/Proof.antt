@@ -2,43 +2,18 @@
 use Rattle.headers.proofs.judge.judge.Statement.{statement}
 use Rattle.headers.proofs.judge.judge.Tie as tie
 use Prim.Native.Nat.{_<_, _≤_}
-use Rattle.headers.proofs.FirstFour.{Fixed, basis-within}
+use Rattle.headers.proofs.FirstFour.{nothing-ranged, Fixed, basis-within}
 use Rattle.headers.proofs.TwoParts.{early-refused, early-fixed, late-refused, all-kept}
 use Rattle.headers.specs.Basis.{basisIn}
 use Rattle.headers.specs.Judged.{broken, factsIn, judged}
 use Rattle.fields.specs.Table.{fieldAt}
-use Rattle.fields.specs.declared.Number.{Number}
-use Rattle.fields.specs.declared.Number.the-variants as number
-use Rattle.due.specs.Due.{numberOf}
-use lib.Dec.{lit<}
+use Rattle.due.specs.Due.{nothing}
 use Rattle.due.specs.declared.Basis.{Basis}
 use Rattle.headers.specs.declared.JudgedHeaders.the-variants.{Good, Refused}
 use native.Mathlib.Omega.{arith}
 use borrow.Author.Needs.{needs}
 use Rattle.headers.proofs.Exactly.{judged-short}
 use mathlib.Core.Path.{_≡_, sym, ap, _∙_}
-
--- what the code passes where nothing is due
-abbrev nothing : Basis
-nothing = record {
-  grid = record {
-    level = 0;
-    factor = 0;
-    interval = record { latitude = 0; longitude = 0 };
-    columns = 0;
-    posts = 0;
-    bytes = record { column = 0; cell = 0 };
-  };
-  latitude = 0;
-  longitude = 0;
-  letter = 0;
-}
-
-nothing-small : (n : Number) → numberOf n (nothing .grid) < 10000
-nothing-small number.LatitudeInterval = lit< tt
-nothing-small number.LongitudeInterval = lit< tt
-nothing-small number.Columns = lit< tt
-nothing-small number.Posts = lit< tt
 
 -- past the first four rows
 fixed-here : (c : tie.Else2) → Fixed (c .before .before .before .before .args .s .now)
@@ -62,21 +37,18 @@ first-broken-requires c κs = record {
   ordered = omega arith;
   rows = omega arith;
   whole = omega arith;
-  basis = record { origin = record { latitude = lit< tt; longitude = lit< tt }; level = lit< tt; numbers = nothing-small };
+  basis = nothing-ranged;
 }
 
-row-requires : tie.Need-row-requires
-row-requires c κs = search needs
-
 broken-requires : tie.Need-broken-requires
-broken-requires c κs = search needs
+broken-requires c κs = record { below = omega arith; whole = omega arith; basis = nothing-ranged }
 
 returns-2 : tie.Need-returns-2
 returns-2 c =
-    let b = c .before .before .before in
+    let b = c .before .before in
     let s = b .before .before .before .args .s .now in
-    ap Refused (c .broken .ensures ∙ ap (broken s nothing) (c .before .row .ensures))
-    ∙ sym (early-refused s (b .before .if1 .left) nothing (b .first-broken .result) (b .first-broken .ensures) (c .before .before .if2 .taken))
+    ap Refused (c .broken .ensures)
+    ∙ sym (early-refused s (b .before .if1 .left) nothing (b .first-broken .result) (b .first-broken .ensures) (c .before .if2 .taken))
 
 basis-in-requires : tie.Need-basis-in-requires
 basis-in-requires c κs = record { whole = c .before .before .if1 .left; latitude = fixed-here c .latitude }
@@ -84,19 +56,17 @@ basis-in-requires c κs = record { whole = c .before .before .if1 .left; latitud
 first-broken-requires-2 : tie.Need-first-broken-requires-2
 first-broken-requires-2 c κs = record { ordered = omega arith; rows = omega arith; whole = omega arith; basis = rw (c .basis-in .ensures) (basis-within _ (fixed-here (c .before))) }
 
-row-requires-2 : tie.Need-row-requires-2
-row-requires-2 c κs = search needs
-
 broken-requires-2 : tie.Need-broken-requires-2
-broken-requires-2 c κs = search needs
+broken-requires-2 c κs =
+    let b = c .before .before in
+    record { below = omega arith; whole = omega arith; basis = rw (b .basis-in .ensures) (basis-within _ (fixed-here (b .before))) }
 
 returns-3 : tie.Need-returns-3
 returns-3 c =
-    let b = c .before .before .before in
+    let b = c .before .before in
     let s = b .before .before .before .before .before .before .args .s .now in
-    ap Refused
-    (c .broken2 .ensures ∙ ap (λ (d : Basis). broken s d (c .before .row2 .result)) (b .before .basis-in .ensures) ∙ ap (broken s (basisIn s)) (c .before .row2 .ensures))
-    ∙ sym (late-found b .0 (c .before .before .if3 .taken))
+    ap Refused (c .broken2 .ensures ∙ ap (λ (d : Basis). broken s d (fieldAt (b .first-broken2 .result))) (b .before .basis-in .ensures))
+    ∙ sym (late-found b .0 (c .before .if3 .taken))
 
 decimal-requires : tie.Need-decimal-requires
 decimal-requires c κs = search needs
@@ -119,12 +89,10 @@ judge-spec =
     (tie.spec
     returns
     first-broken-requires
-    row-requires
     broken-requires
     returns-2
     basis-in-requires
     first-broken-requires-2
-    row-requires-2
     broken-requires-2
     returns-3
     decimal-requires
