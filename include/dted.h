@@ -23,9 +23,9 @@
 #include <assert.h>
 #endif
 
-#define DTED_VERSION "0.2.0"
+#define DTED_VERSION "0.3.0"
 #define DTED_VERSION_MAJOR 0
-#define DTED_VERSION_MINOR 2
+#define DTED_VERSION_MINOR 3
 #define DTED_VERSION_PATCH 0
 
 /* The compiler says where an answer is dropped: it alone tells whether anything was done. */
@@ -50,7 +50,6 @@ typedef struct {
 enum {
     DTED_OK = 0,
     DTED_SHORT = 1,       /* fewer than 3,428 bytes: the length */
-    DTED_FIELD = 2,       /* a header field breaks its rule: its offset */
     DTED_CUT = 3,         /* a column is not there whole: its offset */
     DTED_PREAMBLE = 4,    /* a preamble field is wrong: its offset */
     DTED_CHECKSUM = 5,    /* a checksum differs: its offset */
@@ -60,7 +59,12 @@ enum {
     DTED_ITEM = 9,        /* an item is out of its range: its number, from 1, so one more than its index below */
     DTED_GRID_LENGTH = 10, /* the grid's length differs: the number of posts due */
     DTED_HEIGHT = 11,     /* a height or void is not allowed: its index in the grid or the posts given; 0 for an edit */
-    DTED_ROOM = 12        /* the output is too short: the length due */
+    DTED_ROOM = 12,       /* the output is too short: the length due */
+    /* A header field breaks its rule. Place of all three: the offset of its first byte that is not as due, or that of its first byte
+     * where more than one text was good there. dted(3) says field by field which of them it can give. */
+    DTED_FIELD_IMPOSSIBLE = 21,  /* no header that is accepted has these bytes in that field */
+    DTED_FIELD_CONTRADICTS = 22, /* another header may have them there; here they go against another field */
+    DTED_FIELD_OFF_TABLE = 23    /* another header may have them there; here the interval or count is not that of level and zone */
 };
 
 /* Heights are metres, -12,000 to 9,000. A post without a height is this, which a cell may hold where its DTED_PARTIAL is not 0. */
@@ -100,18 +104,19 @@ enum {
 
 /* ---- calls on a cell ---- */
 
-/* `Order` gives the numbers of the refusals that a call looks for, in turn: the first that applies is answered. */
+/* `Order` gives the numbers of the refusals that a call looks for, in turn: the first that applies is answered. Of 21 to 23 it is the
+ * one that the first broken field gives, whichever that is: the fields are judged in the order of dted(5). */
 
-/* Judges a whole cell. Order: 1, 2, then column after column from the west 3, 4, 5, 6, then 7. The answer holds level, columns
- * and posts to a column. */
+/* Judges a whole cell. Order: 1, 21 to 23, then column after column from the west 3, 4, 5, 6, then 7. The answer holds
+ * level, columns and posts to a column. */
 DTED_MUST_USE dted_answer dted_intake(const uint8_t *cell, size_t length);
 
-/* The description of a cell, from its headers alone. Order: 1, 2. Fills all of `items`, or none where it is refused. The answer
- * holds nothing. */
+/* The description of a cell, from its headers alone. Order: 1, 21 to 23. Fills all of `items`, or none where it is refused. The
+ * answer holds nothing. */
 DTED_MUST_USE dted_answer dted_describe(const uint8_t *cell, size_t length, int64_t items[DTED_ITEMS]);
 
-/* The height of one post; column 0 is the western one, post 0 the southern one. Order: 1, 2, 8, then 3, 4, 5, 6 for that
- * column alone. The answer holds the height, or DTED_VOID. */
+/* The height of one post; column 0 is the western one, post 0 the southern one. Order: 1, 21 to 23, 8, then 3, 4, 5, 6 for
+ * that column alone. The answer holds the height, or DTED_VOID. */
 DTED_MUST_USE dted_answer dted_post(const uint8_t *cell, size_t length, uint64_t column, uint64_t post);
 
 /* The post nearest a position, in tenths of arc-seconds, north and east positive, edges included; of two equally near the

@@ -15,25 +15,28 @@
 
 /* What a refusal says, and what its place counts; null where the place says nothing. */
 typedef struct {
+    unsigned number;
     const char *reason, *place;
 } dted_refusal_words_;
 
-/* In the order of their numbers; the last one is for every other number. */
+/* One row to a number; the last one is for every number without a row. */
 static const dted_refusal_words_ dted_refusals_[] = {
-    {"accepted", NULL},
-    {"fewer bytes than the headers have", "length"},
-    {"a header field breaks its rule", "offset"},
-    {"a column is not there whole", "offset"},
-    {"a preamble field is wrong", "offset"},
-    {"a checksum differs", "offset"},
-    {"a post word is not allowed", "offset"},
-    {"bytes stand after the last column", "length due"},
-    {"no such column, post or position", NULL},
-    {"an item is out of its range", "item"},
-    {"the grid's length differs", "posts due"},
-    {"a height or void is not allowed", "index"},
-    {"the output is too short", "length due"},
-    {"an unknown number", "place"},
+    {DTED_OK, "accepted", NULL},
+    {DTED_SHORT, "fewer bytes than the headers have", "length"},
+    {DTED_CUT, "a column is not there whole", "offset"},
+    {DTED_PREAMBLE, "a preamble field is wrong", "offset"},
+    {DTED_CHECKSUM, "a checksum differs", "offset"},
+    {DTED_WORD, "a post word is not allowed", "offset"},
+    {DTED_SURPLUS, "bytes stand after the last column", "length due"},
+    {DTED_OFF_GRID, "no such column, post or position", NULL},
+    {DTED_ITEM, "an item is out of its range", "item"},
+    {DTED_GRID_LENGTH, "the grid's length differs", "posts due"},
+    {DTED_HEIGHT, "a height or void is not allowed", "index"},
+    {DTED_ROOM, "the output is too short", "length due"},
+    {DTED_FIELD_IMPOSSIBLE, "a header field has bytes that are never accepted there", "offset"},
+    {DTED_FIELD_CONTRADICTS, "a header field contradicts another field", "offset"},
+    {DTED_FIELD_OFF_TABLE, "an interval or a count is not that of level and zone", "offset"},
+    {0, "an unknown number", "place"},
 };
 
 /* A header field: the bytes of the file from `first` to before `end`. */
@@ -88,8 +91,10 @@ static const dted_field_words_ dted_fields_[] = {
 
 /* The words of a refusal's number. */
 static inline const dted_refusal_words_ *dted_words_of_(unsigned number) {
-    const unsigned unknown = sizeof dted_refusals_ / sizeof *dted_refusals_ - 1;
-    return &dted_refusals_[number < unknown ? number : unknown];
+    const dted_refusal_words_ *words = dted_refusals_, *unknown = words + sizeof dted_refusals_ / sizeof *dted_refusals_ - 1;
+    while (words != unknown && words->number != number)
+        words++;
+    return words;
 }
 
 /* What a number of dted.h says, in a few words; "accepted" for DTED_OK. */
@@ -115,7 +120,7 @@ static inline const char *dted_item_name(uint64_t number) {
 
 /* What stands at a refusal's place, where it has a name. */
 static inline const char *dted_place_name_(unsigned number, uint64_t place) {
-    if (number == DTED_FIELD)
+    if (number >= DTED_FIELD_IMPOSSIBLE && number <= DTED_FIELD_OFF_TABLE)
         return dted_field(place);
     return number == DTED_ITEM ? dted_item_name(place) : NULL;
 }
