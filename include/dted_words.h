@@ -15,7 +15,7 @@
 
 /* What a refusal says, and what its place counts; null where the place says nothing. */
 typedef struct {
-    unsigned number;
+    size_t number; /* as wide as a pointer: no compiler has a gap to warn of */
     const char *reason, *place;
 } dted_refusal_words_;
 
