@@ -155,6 +155,16 @@ for page in man/*; do
     same "$page" '' "$(cd "$there/share/man" && mandoc -Tlint -Wstyle man?/"${page##*/}" 2>&1 |
         grep -vE 'referenced manual not found|outdated mandoc.db')"
 done
+# the intake program's line for the headers of a level 1 cell with another text in one field
+judged() { # LATITUDE OFFSET TEXT
+    python3 -B -c 'import sys
+sys.path.insert(0, "tools")
+from second_writer import headers, with_texts
+sys.stdout.buffer.write(with_texts(bytes(headers(1, int(sys.argv[1]), 7)), sys.argv[3], int(sys.argv[2])))' "$@" |
+        tools/x86-64 "$there/bin/dted-intake"
+}
+same "dted.3's examples of header fields" "$(sed -n 's/^\.It Li \(refused .*\)/\1/p' man/dted.3)" \
+    "$(judged 46 20 003O; judged 46 167 '7 '; judged 46 139 DTED0; judged 47 265 460000.0N; judged 52 47 1201; judged 46 361 0121)"
 same "functions whose page is not the library's" '' "$(cd "$there/share/man/man3" && grep -LFx '.so man3/dted.3' dted_*)"
 take_away 'uninstall'
 
