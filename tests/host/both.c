@@ -1,6 +1,7 @@
 /* both.c - each call made twice, of the library and of the second reader and writer, and compared. */
 #include "both.h"
 
+#include "cells.h"
 #include "second.h"
 
 #include <stdio.h>
@@ -46,10 +47,21 @@ void both_side(enum side side) {
 
 /* ---- comparing ---- */
 
+/* Whatever the second one says: a number that is given at all, and of a header field one that it can give, at a place in it. */
+static bool is_told(dted_answer answer) {
+    unsigned number = dted_number(answer);
+    if (number < DTED_FIELD_IMPOSSIBLE)
+        return number <= DTED_ROOM && number != 2;
+    size_t f = cell_field_at(dted_place(answer));
+    return f < CELL_FIELDS && (number == DTED_FIELD_IMPOSSIBLE || number == cell_fields[f].besides);
+}
+
 static dted_answer same_answer(const char *call, dted_answer library, uint64_t second) {
     both_calling = "nothing";
     if (library.bits != second)
         differ(call, "the answer", 0, library.bits, second);
+    if (!is_told(library))
+        differ(call, "a number that is not given, or not there", 0, library.bits, second);
     return library;
 }
 

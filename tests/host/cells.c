@@ -9,13 +9,20 @@
 
 /* ---- the header fields ---- */
 
-const struct cell_field cell_fields[] = {
-    {0, 4},   {4, 8},   {12, 8},  {24, 4},  {20, 4},  {28, 4},  {32, 3},  {47, 4},  {51, 4},   {55, 1},
-    {80, 3},  {83, 1},  {139, 5}, {167, 2}, {169, 1}, {206, 9}, {221, 3}, {224, 5}, {265, 9},  {274, 10},
-    {284, 7}, {291, 8}, {299, 7}, {306, 8}, {314, 7}, {321, 8}, {329, 7}, {336, 8}, {344, 9},  {353, 4},
-    {357, 4}, {361, 4}, {365, 4}, {369, 2}, {728, 3}, {731, 4}, {735, 4}, {739, 4}, {743, 4}, {783, 2},
+const struct cell_field cell_fields[CELL_FIELDS] = {
+    {0, 4, 0}, {4, 8, 0}, {12, 8, 0}, {24, 4, 0}, {20, 4, 23}, {28, 4, 0}, {32, 3, 0}, {47, 4, 23}, {51, 4, 23}, {55, 1, 0},
+    {80, 3, 0}, {83, 1, 22}, {139, 5, 22}, {167, 2, 0}, {169, 1, 0}, {206, 9, 0}, {221, 3, 0}, {224, 5, 0}, {265, 9, 22},
+    {274, 10, 22}, {284, 7, 22}, {291, 8, 22}, {299, 7, 22}, {306, 8, 22}, {314, 7, 22}, {321, 8, 22}, {329, 7, 22},
+    {336, 8, 22}, {344, 9, 0}, {353, 4, 23}, {357, 4, 23}, {361, 4, 23}, {365, 4, 23}, {369, 2, 0}, {728, 3, 0}, {731, 4, 0},
+    {735, 4, 0}, {739, 4, 0}, {743, 4, 0}, {783, 2, 0},
 };
-const size_t cell_field_count = COUNT(cell_fields);
+
+size_t cell_field_at(uint64_t place) {
+    size_t f = 0;
+    while (f < CELL_FIELDS && (place < cell_fields[f].offset || place >= cell_fields[f].offset + cell_fields[f].width))
+        f++;
+    return f;
+}
 
 const char *const cell_texts[] = {
     /* intervals and counts of every level and zone, and their neighbours */
@@ -116,17 +123,10 @@ static void make_room(struct cell *cell, size_t length) {
     }
 }
 
-static bool is_free(size_t offset) {
-    for (size_t f = 0; f < cell_field_count; f++)
-        if (cell_fields[f].offset <= offset && offset < cell_fields[f].offset + cell_fields[f].width)
-            return false;
-    return true;
-}
-
 static void random_free_bytes(struct random *random, uint8_t *bytes) {
     static bool known, is_free_at[CELL_HEADERS];
     for (size_t i = 0; i < CELL_HEADERS && !known; i++)
-        is_free_at[i] = is_free(i);
+        is_free_at[i] = cell_field_at(i) == CELL_FIELDS;
     known = true;
     for (size_t i = 0; i < CELL_HEADERS; i++)
         if (is_free_at[i])
@@ -141,6 +141,14 @@ static void random_letters(struct random *random, uint8_t *bytes) {
         if (memcmp(bytes + at + 7, "000", 3) == 0 || memcmp(bytes + at + 7, "180", 3) == 0)
             bytes[at + 14] = (uint8_t)"EW"[random_below(random, 2)];
     }
+}
+
+void cell_make_headers(struct random *random, const int64_t *items, uint8_t *headers) {
+    second_headers(headers, items);
+    if (!random_one_in(random, 4))
+        random_free_bytes(random, headers);
+    if (random_one_in(random, 2))
+        random_letters(random, headers);
 }
 
 static void set_sizes(struct cell *cell) {
@@ -167,14 +175,10 @@ void cell_make(struct random *random, const int64_t *items, size_t columns_made,
     cell_heights(random, items[12] != 0, cell->grid, made * cell->posts);
     cell->length = CELL_HEADERS + made * cell->column_bytes;
     make_room(cell, cell->length);
-    second_headers(cell->bytes, items);
+    cell_make_headers(random, items, cell->bytes);
     for (size_t k = 0; k < made; k++)
         second_write_column(column_of(cell, k), cell->column_bytes, (uint64_t)items[0], k, cell->grid + 2 * k * cell->posts,
                             2 * cell->posts);
-    if (!random_one_in(random, 4))
-        random_free_bytes(random, cell->bytes);
-    if (random_one_in(random, 2))
-        random_letters(random, cell->bytes);
 }
 
 void cell_free(struct cell *cell) {
@@ -359,20 +363,33 @@ static void shifted(struct random *random, uint8_t *at, size_t width) {
     }
 }
 
-static void header_field(struct random *random, struct cell *cell) {
+/* The field as another cell has it, of any level and origin. */
+static void borrowed(struct random *random, uint8_t *at, const struct cell_field *field) {
+    uint8_t headers[CELL_HEADERS];
+    int64_t items[CELL_ITEMS];
+    cell_items(random, random_between(random, 0, 2), items);
+    cell_make_headers(random, items, headers);
+    memcpy(at, headers + field->offset, field->width);
+}
+
+void cell_spoil_field(struct random *random, uint8_t *headers, size_t f) {
     static const char plausible[] = "0123456789 NSEWAZaz./:-+@[UCR";
-    if (cell->length < CELL_HEADERS)
-        return;
-    const struct cell_field *field = &cell_fields[random_below(random, cell_field_count)];
-    uint8_t *at = cell->bytes + field->offset, *byte = at + random_below(random, field->width);
-    switch (random_below(random, 6)) {
+    const struct cell_field *field = &cell_fields[f];
+    uint8_t *at = headers + field->offset, *byte = at + random_below(random, field->width);
+    switch (random_below(random, 9)) {
     case 0: other_text(random, at, field->width); break;
     case 1: shifted(random, at, field->width); break;
     case 2: *byte = (uint8_t)plausible[random_below(random, sizeof plausible - 1)]; break;
     case 3: *byte ^= 0x20; break; /* the other case of a letter */
     case 4: *byte = (uint8_t)(random_one_in(random, 2) ? *byte + 1 : *byte - 1); break;
-    default: change_byte(random, byte); break;
+    case 5: change_byte(random, byte); break;
+    default: borrowed(random, at, field); break;
     }
+}
+
+static void header_field(struct random *random, struct cell *cell) {
+    if (cell->length >= CELL_HEADERS)
+        cell_spoil_field(random, cell->bytes, random_below(random, CELL_FIELDS));
 }
 
 static void other_headers(struct random *random, struct cell *cell) {

@@ -16,9 +16,15 @@
 
 struct cell_field {
     size_t offset, width;
+    unsigned besides; /* the number that it may give besides 21: 22, 23, or 0 for none */
 };
-extern const struct cell_field cell_fields[];
-extern const size_t cell_field_count;
+
+/* In the order in which they are judged. */
+#define CELL_FIELDS 40
+extern const struct cell_field cell_fields[CELL_FIELDS];
+
+/* The field that has the byte at this place, or CELL_FIELDS where none has it. */
+size_t cell_field_at(uint64_t place);
 
 /* Texts that stand in some field of some cell, or nearly: to be tried wherever their width fits. Ends with null. */
 extern const char *const cell_texts[];
@@ -46,6 +52,12 @@ void cell_heights(struct random *random, bool voids, uint8_t *grid, size_t count
 /* A cell of these items, cut after `columns_made` columns (SIZE_MAX: whole). Free bytes and free letters are random at times.
  * The memory of an earlier cell is used again: start from a zeroed struct. */
 void cell_make(struct random *random, const int64_t *items, size_t columns_made, struct cell *cell);
+
+/* Headers alone, of items in range. Free bytes and free letters are random at times. */
+void cell_make_headers(struct random *random, const int64_t *items, uint8_t *headers);
+
+/* Changes field `f`: by a byte, to a listed text, or to what it holds in some other cell, which may be right here, too. */
+void cell_spoil_field(struct random *random, uint8_t *headers, size_t f);
 
 /* One or two damages, or a change that leaves the cell right. */
 void cell_damage(struct random *random, struct cell *cell);

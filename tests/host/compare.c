@@ -207,10 +207,23 @@ static void look_up(struct random *random, const struct cell *cell) {
     }
 }
 
+/* How often each field was refused with 21, 22 and 23. */
+static uint64_t seen[CELL_FIELDS][3];
+
+static dted_answer see(dted_answer answer) {
+    unsigned number = dted_number(answer);
+    if (number >= DTED_FIELD_IMPOSSIBLE && number <= DTED_FIELD_OFF_TABLE) {
+        size_t f = cell_field_at(dted_place(answer));
+        if (f < CELL_FIELDS)
+            seen[f][number - DTED_FIELD_IMPOSSIBLE]++;
+    }
+    return answer;
+}
+
 static void judge_and_read(struct random *random, const struct cell *cell) {
     int64_t items[CELL_ITEMS];
     both_lend(cell->bytes, cell->length);
-    dted_answer intake = both_intake();
+    dted_answer intake = see(both_intake());
     both_describe(items);
     if (cell->whole)
         expect_whole(cell, intake, items);
@@ -233,6 +246,47 @@ static void replace_bytes(struct random *random, struct cell *cell) {
         expect("in its column", start <= dted_place(answer) && dted_place(answer) < start + cell->column_bytes, 1);
         cell->bytes[at] = kept;
     }
+}
+
+/* ---- headers ---- */
+
+/* Headers to a field: where a case is run on one side alone, an emulator is at work. */
+static uint64_t headers_to_field(void) {
+    return sides == 1 ? 100 : 1000;
+}
+
+/* Headers of any level with this field spoiled, and at times another one. */
+static void spoiled_field_case(const void *context) {
+    size_t f = *(const size_t *)context;
+    struct random random = random_of_case(seed, UINT64_C(1) << 40 | f);
+    uint8_t headers[CELL_HEADERS];
+    int64_t items[CELL_ITEMS];
+    name_case("headers, the field at %zu spoiled", cell_fields[f].offset);
+    for (uint64_t i = 0; i < headers_to_field(); i++) {
+        cell_items(&random, random_between(&random, 0, 2), items);
+        cell_make_headers(&random, items, headers);
+        cell_spoil_field(&random, headers, f);
+        if (random_one_in(&random, 4))
+            cell_spoil_field(&random, headers, random_below(&random, CELL_FIELDS));
+        both_side(i % 2 == 0 ? AT_START : AT_END);
+        both_lend(headers, sizeof headers);
+        see(both_describe(items));
+    }
+}
+
+/* Each field was often refused with each number that it can give, and never with another. */
+static void seen_case(const void *context) {
+    (void)context;
+    uint64_t all[3] = {0, 0, 0};
+    for (size_t f = 0; f < CELL_FIELDS; f++)
+        for (unsigned n = 0; n < 3; n++) {
+            bool can = n == 0 || cell_fields[f].besides == DTED_FIELD_IMPOSSIBLE + n;
+            name_case("refusals %u seen in the field at %zu", DTED_FIELD_IMPOSSIBLE + n, cell_fields[f].offset);
+            expect("often or never", can ? seen[f][n] >= headers_to_field() / 20 : seen[f][n] == 0, 1);
+            all[n] += seen[f][n];
+        }
+    for (unsigned n = 0; n < 3; n++)
+        expect("in all fields", all[n] >= headers_to_field(), 1);
 }
 
 /* ---- edits ---- */
@@ -460,6 +514,9 @@ int main(int count, char **texts) {
         struct plan plan = plan_of(number);
         run_case(seeded_case, &plan);
     }
+    for (size_t f = 0; f < CELL_FIELDS; f++)
+        run_case(spoiled_field_case, &f);
+    run_case(seen_case, NULL);
     cell_free(&cell);
     cell_free(&kept);
     printf("%" PRIu64 " passed, %" PRIu64 " failed\n", passed, failed);

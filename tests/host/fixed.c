@@ -3,6 +3,7 @@
 #include "cells.h"
 #include "compare.h"
 #include "dted.h"
+#include "second.h"
 
 #include <limits.h>
 #include <string.h>
@@ -232,63 +233,115 @@ static void words_and_heights_case(const void *context) {
 /* ---- every byte, every number ---- */
 
 struct field_sweep {
-    const struct cell_field *field;
-    int64_t latitude, longitude;
+    size_t field;
+    int64_t level, latitude, longitude;
 };
+
+/* The headers that are lent, with this text in the field; afterwards they are as before. */
+static dted_answer described_with(const struct cell_field *field, const char *text) {
+    int64_t items[CELL_ITEMS];
+    uint8_t kept[16], *at = cell.bytes + field->offset;
+    memcpy(kept, at, field->width);
+    memcpy(at, text, field->width);
+    both_lend(cell.bytes, cell.length);
+    dted_answer answer = both_describe(items);
+    memcpy(at, kept, field->width);
+    return answer;
+}
 
 /* Each byte of the field takes each value; then each listed text stands there. */
 static void field_case(const void *context) {
     const struct field_sweep *sweep = context;
-    size_t offset = sweep->field->offset, width = sweep->field->width;
-    int64_t items[CELL_ITEMS];
-    name_case("header field at %zu", offset);
-    make(0, sweep->latitude, sweep->longitude, 0, 0);
-    for (size_t i = 0; i < 256 * width; i++) {
-        uint8_t *byte = cell.bytes + offset + i / 256, kept = *byte;
-        *byte = (uint8_t)(i % 256);
-        both_lend(cell.bytes, cell.length);
-        both_describe(items);
-        *byte = kept;
+    const struct cell_field *field = &cell_fields[sweep->field];
+    char text[16];
+    name_case("header field at %zu", field->offset);
+    make(sweep->level, sweep->latitude, sweep->longitude, 0, 0);
+    for (size_t i = 0; i < 256 * field->width; i++) {
+        memcpy(text, cell.bytes + field->offset, field->width);
+        text[i / 256] = (char)(i % 256);
+        described_with(field, text);
     }
-    for (size_t t = 0; cell_texts[t] != NULL; t++) {
-        uint8_t kept[16];
-        if (strlen(cell_texts[t]) != width)
-            continue;
-        memcpy(kept, cell.bytes + offset, width);
-        memcpy(cell.bytes + offset, cell_texts[t], width);
-        both_lend(cell.bytes, cell.length);
-        both_describe(items);
-        memcpy(cell.bytes + offset, kept, width);
+    for (size_t t = 0; cell_texts[t] != NULL; t++)
+        if (strlen(cell_texts[t]) == field->width)
+            described_with(field, cell_texts[t]);
+}
+
+/* How many texts some accepted header has in each field, by the paper: an accuracy is 0 to 9,999 or NA, a corner has a second letter at
+ * 0 degrees, and at longitude 180. */
+static const size_t possible_counts[CELL_FIELDS] = {
+    1, 360, 180, 3, 13, 10001, 4, 13, 3, 1, 1, 4, 3, 99, 26, 1, 2, 1, 180, 360,
+    181, 362, 181, 362, 181, 362, 181, 362, 1, 3, 13, 3, 13, 100, 1, 10001, 10001, 10001, 10001, 1,
+};
+
+/* No text that some header has in a field is called impossible, whatever headers it is put into; of long lists some texts are tried. */
+static void possible_case(const void *context) {
+    const struct field_sweep *sweep = context;
+    const struct texts *texts = second_possible(sweep->field);
+    size_t step = sweep->level == 0 && sides > 1 ? 1 : 1 + texts->count / 400;
+    name_case("all that may stand in the header field at %zu", cell_fields[sweep->field].offset);
+    expect("texts", texts->count, possible_counts[sweep->field]);
+    make(sweep->level, sweep->latitude, sweep->longitude, 0, 0);
+    for (size_t i = 0; i < texts->count; i += step) {
+        dted_answer answer = described_with(&cell_fields[sweep->field], texts->list[i].bytes);
+        expect("not impossible", dted_number(answer) != DTED_FIELD_IMPOSSIBLE, 1);
     }
 }
 
 static void run_field_cases(void) {
-    static const int64_t origins[][2] = {{0, 0}, {-1, -1}, {49, -180}, {-90, 179}, {89, 99}};
+    static const int64_t origins[][3] = {{0, 0, 0}, {1, -1, -1}, {2, 49, -180}, {2, -90, 179}, {1, 89, 99}};
     for (size_t o = 0; o < COUNT(origins); o++) {
         both_side(o % 2 == 0 ? AT_START : AT_END);
-        for (size_t f = 0; f < cell_field_count; f++) {
-            struct field_sweep sweep = {&cell_fields[f], origins[o][0], origins[o][1]};
+        for (size_t f = 0; f < CELL_FIELDS; f++) {
+            struct field_sweep sweep = {f, origins[o][0], origins[o][1], origins[o][2]};
             run_case(field_case, &sweep);
+            run_case(possible_case, &sweep);
         }
     }
 }
 
-/* Of two broken fields the one that is judged first is told: `cell_fields` has them in the order of judging. */
-static void two_fields_case(const void *context) {
-    (void)context;
-    name_case("two broken fields");
+/* How a field is broken: by a byte that no header has, at its start or at its end, or by what it holds in other headers. */
+enum breaking { FIRST_BYTE, LAST_BYTE, OTHER_TEXT, BREAKINGS };
+
+/* Breaks a field of the cell, and gives the number that is due; 0 where this way leaves the field right. */
+static unsigned broken(const struct cell_field *field, enum breaking how) {
+    static const int64_t others[CELL_ITEMS] = {1, -52, -9, 'S', 2, 'B', DTED_MSL, 5, 5, 5, 5, 5, 5};
+    uint8_t headers[CELL_HEADERS], *at = cell.bytes + field->offset;
+    if (how != OTHER_TEXT) {
+        at[how == FIRST_BYTE ? 0 : field->width - 1] = '~';
+        return DTED_FIELD_IMPOSSIBLE;
+    }
+    if (field->besides != 0) {
+        second_headers(headers, others);
+        memcpy(at, headers + field->offset, field->width);
+    }
+    return field->besides;
+}
+
+/* Of two broken fields the one that is judged first is told: the place lies in it, and the number is its own. */
+static void expect_first(const struct cell_field *first, enum breaking one, const struct cell_field *second, enum breaking two) {
+    uint8_t kept[CELL_HEADERS];
     int64_t items[CELL_ITEMS];
+    memcpy(kept, cell.bytes, sizeof kept);
+    unsigned number = broken(first, one), other = broken(second, two);
+    if (number != 0 && other != 0) {
+        both_lend(cell.bytes, cell.length);
+        dted_answer answer = both_describe(items);
+        expect("the number of the first of two", dted_number(answer), number);
+        expect("its place is in it", dted_place(answer) - first->offset < first->width, 1);
+        if (one == FIRST_BYTE)
+            expect("its place", dted_place(answer), first->offset);
+    }
+    memcpy(cell.bytes, kept, sizeof kept);
+}
+
+static void two_fields_case(const void *context) {
+    size_t first = *(const size_t *)context;
+    name_case("two broken fields, the first at %zu", cell_fields[first].offset);
     make(0, 46, 7, 0, 0);
-    for (size_t first = 0; first < cell_field_count; first++)
-        for (size_t second = first + 1; second < cell_field_count; second++) {
-            uint8_t *one = cell.bytes + cell_fields[first].offset, *other = cell.bytes + cell_fields[second].offset;
-            uint8_t kept = *one, kept_too = *other;
-            *one = *other = '~';
-            both_lend(cell.bytes, cell.length);
-            expect("the first of two", both_describe(items).bits, refusal(2, cell_fields[first].offset));
-            *one = kept;
-            *other = kept_too;
-        }
+    for (size_t second = first + 1; second < CELL_FIELDS; second++)
+        for (enum breaking one = FIRST_BYTE; one < BREAKINGS; one++)
+            for (enum breaking two = FIRST_BYTE; two < BREAKINGS; two++)
+                expect_first(&cell_fields[first], one, &cell_fields[second], two);
 }
 
 /* A whole cell with its free bytes at one value after the other says the same. */
@@ -475,8 +528,9 @@ void run_fixed_cases(void) {
         both_side(side == 0 ? AT_START : AT_END);
         run_examples();
         run_number_cases();
-        run_case(two_fields_case, NULL);
-    run_case(free_bytes_case, NULL);
+        for (size_t first = 0; first + 1 < CELL_FIELDS; first++)
+            run_case(two_fields_case, &first);
+        run_case(free_bytes_case, NULL);
     }
     run_field_cases();
     cell_free(&cell);

@@ -1,6 +1,7 @@
 /* literals.c - cases whose numbers are written out, over the stored cells, which neither writer of these tests has made. */
 #include "bare.h"
 #include "both.h"
+#include "cells.h"
 #include "compare.h"
 #include "dted.h"
 #include "numbers.h"
@@ -66,15 +67,16 @@ static void names_case(const void *context) {
 /* ---- the refusals, and the sizes ---- */
 
 static void numbers_case(const void *context) {
-    static const unsigned numbers[] = {
-        DTED_OK, DTED_SHORT, DTED_FIELD, DTED_CUT, DTED_PREAMBLE, DTED_CHECKSUM, DTED_WORD, DTED_SURPLUS, DTED_OFF_GRID, DTED_ITEM,
-        DTED_GRID_LENGTH, DTED_HEIGHT, DTED_ROOM,
+    static const unsigned numbers[][2] = {
+        {DTED_OK, 0}, {DTED_SHORT, 1}, {DTED_CUT, 3}, {DTED_PREAMBLE, 4}, {DTED_CHECKSUM, 5}, {DTED_WORD, 6}, {DTED_SURPLUS, 7},
+        {DTED_OFF_GRID, 8}, {DTED_ITEM, 9}, {DTED_GRID_LENGTH, 10}, {DTED_HEIGHT, 11}, {DTED_ROOM, 12},
+        {DTED_FIELD_IMPOSSIBLE, 21}, {DTED_FIELD_CONTRADICTS, 22}, {DTED_FIELD_OFF_TABLE, 23},
     };
     (void)context;
     name_case("names of the refusals, sizes, and what answers hold");
-    expect("names", COUNT(numbers), 13);
+    expect("names", COUNT(numbers), 15);
     for (size_t i = 0; i < COUNT(numbers); i++)
-        expect("the name's number", numbers[i], i);
+        expect("the name's number", numbers[i][0], numbers[i][1]);
     expect("header bytes", DTED_HEADER_BYTES, 3428);
     expect("preamble bytes", DTED_PREAMBLE_BYTES, 8);
     expect("the longest column", DTED_LONGEST_COLUMN, 7214);
@@ -166,34 +168,114 @@ static void range_case(const void *context) {
 
 /* ---- single fields ---- */
 
-/* A text in a field of a stored cell, and whether it is refused there. */
+/* A text in a field of a stored cell: the number and the place that are told, or 0 where it is good there. Worked out by hand: 21 if no
+ * accepted header has the text in that field, else 23 for an interval or a count and 22 for another field; the place is the first byte
+ * that is not as due, or the field's first byte where several texts are good there. */
 static const struct field_text {
     const char *name;
     size_t at;
     const char *text;
-    uint64_t refused;
+    uint64_t number, place;
 } field_texts[] = {
+    /* fixed texts: 21 alone, at the first byte that differs */
+    {"terrain.dt0", 0, "UHL2", 21, 3}, {"terrain.dt0", 0, "UHl1", 21, 2}, {"terrain.dt0", 0, "VOL1", 21, 0},
+    {"terrain.dt0", 0, "HDR1", 21, 0}, {"terrain.dt0", 55, "1", 21, 55}, {"terrain.dt0", 80, "DS1", 21, 82},
+    {"terrain.dt0", 80, "dSI", 21, 80}, {"terrain.dt0", 206, "PRF89020A", 21, 214}, {"terrain.dt0", 206, "PRF89O20B", 21, 211},
+    {"terrain.dt0", 206, "         ", 21, 206}, {"terrain.dt0", 224, "WGS72", 21, 227}, {"terrain.dt0", 224, "wGS84", 21, 224},
+    {"terrain.dt0", 344, "0000001.0", 21, 350}, {"terrain.dt0", 344, "0000000.1", 21, 352}, {"terrain.dt0", 344, "0000000,0", 21, 351},
+    {"terrain.dt0", 728, "ACX", 21, 730}, {"terrain.dt0", 728, "\0CC", 21, 728}, {"terrain.dt0", 783, "02", 21, 784},
+    {"terrain.dt0", 783, "10", 21, 783},
+    /* origins: any good one would have passed, so the place is the field's first byte; one that is good is missed further on */
+    {"terrain.dt0", 4, "0070001E", 21, 4}, {"terrain.dt0", 4, "0070000e", 21, 4}, {"terrain.dt0", 4, "1810000W", 21, 4},
+    {"corners_at_0.dt0", 4, "0000000W", 21, 4}, {"north_75.dt0", 4, "1800000E", 21, 4}, {"terrain.dt0", 4, "0070000W", 22, 283},
+    {"terrain.dt0", 4, "0170000E", 22, 275}, {"terrain.dt0", 12, "0900000N", 21, 12}, {"terrain.dt0", 12, "0460100N", 21, 12},
+    {"corners_at_0.dt0", 12, "0000000S", 21, 12}, {"terrain.dt0", 12, "0450000N", 22, 266}, {"terrain.dt0", 12, "0460000S", 22, 273},
+    {"terrain.dt0", 12, "0500000N", 23, 21},
+    /* the level: never 23; another level's is missed further on */
+    {"terrain.dt0", 24, "0301", 21, 24}, {"terrain.dt0", 24, "0600", 21, 24}, {"terrain.dt0", 24, "0 30", 21, 24},
+    {"terrain.dt0", 24, "0030", 23, 21}, {"terrain.dt0", 24, "0010", 23, 21},
+    /* longitude interval: 0300 is due, then 1800, then 0120 of level 1 */
+    {"terrain.dt0", 20, "0301", 21, 23}, {"terrain.dt0", 20, "0000", 21, 21}, {"terrain.dt0", 20, " 300", 21, 20},
+    {"terrain.dt0", 20, "0600", 23, 21}, {"terrain.dt0", 20, "1800", 23, 20}, {"terrain.dt0", 20, "0030", 23, 21},
+    {"north_89.dt0", 20, "1200", 23, 21}, {"north_89.dt0", 20, "1000", 21, 21}, {"north_89.dt0", 20, "1801", 21, 23},
+    {"every_item_level_1.dt1", 20, "0180", 23, 22}, {"every_item_level_1.dt1", 20, "0121", 21, 23},
+    {"every_item_level_1.dt1", 20, "0020", 23, 21}, {"every_item_level_1.dt1", 20, "0200", 21, 21},
+    /* accuracies */
+    {"every_item.dt0", 28, "NA  ", 0, 0}, {"every_item.dt0", 28, "9999", 0, 0}, {"every_item.dt0", 28, "NA 0", 21, 28},
+    {"every_item.dt0", 28, "00 8", 21, 28}, {"every_item.dt0", 731, "NA  ", 0, 0}, {"every_item.dt0", 735, "9999", 0, 0},
+    {"every_item.dt0", 739, "0000", 0, 0}, {"every_item.dt0", 743, " NA ", 21, 743}, {"every_item.dt0", 731, "NA\0 ", 21, 731},
+    {"every_item.dt0", 731, "000/", 21, 731}, {"every_item.dt0", 735, "001:", 21, 735}, {"every_item.dt0", 739, "NA 1", 21, 739},
+    /* security: four letters in the UHL, that one in the DSI */
+    {"every_item.dt0", 32, "C U", 21, 32}, {"every_item.dt0", 32, "CC ", 21, 32}, {"every_item.dt0", 32, "T  ", 21, 32},
+    {"every_item.dt0", 32, "U  ", 22, 83}, {"every_item.dt0", 83, "U", 22, 83}, {"every_item.dt0", 83, "S", 22, 83},
+    {"every_item.dt0", 83, "R", 22, 83}, {"every_item.dt0", 83, "T", 21, 83}, {"every_item.dt0", 83, "c", 21, 83},
+    {"every_item.dt0", 83, " ", 21, 83},
+    /* columns: of the UHL, and of the DSI */
+    {"terrain.dt0", 47, "0061", 23, 48}, {"terrain.dt0", 47, "1201", 23, 47}, {"terrain.dt0", 47, "3601", 23, 47},
+    {"terrain.dt0", 47, "0021", 23, 48}, {"terrain.dt0", 47, "0120", 21, 50}, {"terrain.dt0", 47, "0122", 21, 50},
+    {"terrain.dt0", 47, "121 ", 21, 47}, {"every_item.dt0", 47, "0401", 23, 48}, {"every_item.dt0", 47, "0042", 21, 50},
+    {"every_item.dt0", 365, "0061", 23, 367}, {"every_item.dt0", 365, "0901", 23, 366}, {"every_item.dt0", 365, "0141", 21, 366},
+    {"every_item_level_1.dt1", 365, "0201", 23, 366}, {"every_item_level_1.dt1", 365, "0300", 21, 368},
+    /* posts: no level has so many as zone II has columns */
+    {"terrain.dt0", 51, "0061", 21, 52}, {"terrain.dt0", 51, "0601", 21, 52}, {"terrain.dt0", 51, "1201", 23, 51},
+    {"terrain.dt0", 51, "3601", 23, 51}, {"every_item_level_1.dt1", 51, "0121", 23, 51}, {"every_item_level_1.dt1", 51, "1801", 21, 52},
+    {"terrain.dt0", 361, "0061", 21, 362}, {"terrain.dt0", 361, "1201", 23, 361}, {"terrain.dt0", 361, "0 21", 21, 362},
+    {"every_item_level_1.dt1", 361, "3601", 23, 361}, {"every_item_level_1.dt1", 361, "1202", 21, 364},
+    /* intervals of the DSI */
+    {"terrain.dt0", 353, "0030", 23, 354}, {"terrain.dt0", 353, "0010", 23, 354}, {"terrain.dt0", 353, "0600", 21, 354},
+    {"terrain.dt0", 353, "030O", 21, 356}, {"every_item_level_1.dt1", 353, "0300", 23, 354},
+    {"every_item_level_1.dt1", 353, "0010", 23, 355}, {"every_item_level_1.dt1", 353, "0060", 21, 355},
+    {"terrain.dt0", 357, "0600", 23, 358}, {"terrain.dt0", 357, "0301", 21, 360}, {"every_item.dt0", 357, "0600", 23, 358},
+    {"every_item.dt0", 357, "0090", 23, 358}, {"every_item.dt0", 357, "0400", 21, 358},
+    /* the series: its digit is neither an interval nor a count */
+    {"terrain.dt0", 139, "DTED1", 22, 143}, {"terrain.dt0", 139, "DTED2", 22, 143}, {"terrain.dt0", 139, "DTED3", 21, 143},
+    {"terrain.dt0", 139, "DTED ", 21, 143}, {"terrain.dt0", 139, "DTEd0", 21, 142}, {"terrain.dt0", 139, "dted1", 21, 139},
+    {"every_item_level_1.dt1", 139, "DTED0", 22, 143},
     /* editions and versions */
-    {"every_item.dt0", 167, "00", 1}, {"every_item.dt0", 167, "01", 0}, {"every_item.dt0", 167, "99", 0},
-    {"every_item.dt0", 167, "9 ", 1}, {"every_item.dt0", 169, "A", 0},  {"every_item.dt0", 169, "Z", 0},
-    {"every_item.dt0", 169, "@", 1},  {"every_item.dt0", 169, "[", 1},  {"every_item.dt0", 169, "z", 1},
-    /* datum, accuracies, partial indicator */
-    {"every_item.dt0", 221, "E96", 0}, {"every_item.dt0", 221, "E84", 1}, {"every_item.dt0", 28, "NA  ", 0},
-    {"every_item.dt0", 28, "9999", 0}, {"every_item.dt0", 28, "NA 0", 1}, {"every_item.dt0", 731, "NA  ", 0},
-    {"every_item.dt0", 735, "9999", 0}, {"every_item.dt0", 739, "0000", 0}, {"every_item.dt0", 743, " NA ", 1},
-    {"every_item.dt0", 369, "99", 0}, {"every_item.dt0", 369, "1 ", 1},
-    /* an origin has one name */
-    {"corners_at_0.dt0", 4, "0000000W", 1}, {"corners_at_0.dt0", 12, "0000000S", 1}, {"corners_at_0.dt0", 265, "000000.0S", 1},
-    {"corners_at_0.dt0", 274, "0000000.0W", 1}, {"north_75.dt0", 4, "1800000E", 1}, {"north_75.dt0", 274, "1800000.0E", 1},
-    /* a corner at 0 or 180 has two, one by one */
-    {"corners_at_0.dt0", 284, "000000N", 0}, {"corners_at_0.dt0", 291, "0000000E", 0}, {"corners_at_0.dt0", 306, "0000000E", 0},
-    {"corners_at_0.dt0", 329, "000000N", 0}, {"corners_at_0.dt0", 284, "000000E", 1}, {"corners_at_0.dt0", 291, "0000000N", 1},
-    {"north_75.dt0", 291, "1800000W", 0}, {"north_75.dt0", 306, "1800000W", 0}, {"north_75.dt0", 291, "1790000E", 1},
-    {"north_74.dt0", 321, "1800000E", 0}, {"north_74.dt0", 336, "1800000E", 0}, {"north_74.dt0", 336, "1790000W", 1},
-    {"north_74.dt0", 291, "1790000W", 1}, {"south_80.dt0", 321, "0000000E", 0}, {"south_80.dt0", 336, "0000000E", 0},
-    {"south_80.dt0", 291, "0010000E", 1},
-    /* latitude 90 has one */
-    {"north_89.dt0", 299, "900000N", 0}, {"north_89.dt0", 299, "900000S", 1}, {"north_89.dt0", 314, "900000S", 1},
+    {"every_item.dt0", 167, "00", 21, 167}, {"every_item.dt0", 167, "01", 0, 0}, {"every_item.dt0", 167, "99", 0, 0},
+    {"every_item.dt0", 167, "9 ", 21, 167}, {"every_item.dt0", 169, "A", 0, 0}, {"every_item.dt0", 169, "Z", 0, 0},
+    {"every_item.dt0", 169, "@", 21, 169}, {"every_item.dt0", 169, "[", 21, 169}, {"every_item.dt0", 169, "z", 21, 169},
+    /* datum, partial indicator */
+    {"every_item.dt0", 221, "E96", 0, 0}, {"every_item.dt0", 221, "E84", 21, 221}, {"every_item.dt0", 221, "MSl", 21, 221},
+    {"every_item.dt0", 369, "99", 0, 0}, {"every_item.dt0", 369, "1 ", 21, 369}, {"every_item.dt0", 369, "1A", 21, 369},
+    /* the DSI's origin has one name: 000W, 00S, 180E and 90N are nobody's */
+    {"corners_at_0.dt0", 265, "000000.0S", 21, 273}, {"terrain.dt0", 265, "470000.0N", 22, 266}, {"terrain.dt0", 265, "460000.0S", 22, 273},
+    {"terrain.dt0", 265, "900000.0N", 21, 265}, {"terrain.dt0", 265, "900000.0S", 22, 265}, {"terrain.dt0", 265, "460000.1N", 21, 272},
+    {"terrain.dt0", 265, "460001.0N", 21, 270}, {"terrain.dt0", 265, "46000000N", 21, 271},
+    {"corners_at_0.dt0", 274, "0000000.0W", 21, 283}, {"terrain.dt0", 274, "0000000.0W", 21, 276}, {"terrain.dt0", 274, "0000000.0E", 22, 276},
+    {"north_75.dt0", 274, "1800000.0E", 21, 283}, {"terrain.dt0", 274, "1800000.0E", 21, 274}, {"terrain.dt0", 274, "1800000.0W", 22, 274},
+    {"terrain.dt0", 274, "0070000.0W", 22, 283}, {"terrain.dt0", 274, "0070100.0E", 21, 278},
+    /* corners away from 0 and 180: one text each, at the first byte that differs */
+    {"terrain.dt0", 284, "450000N", 22, 285}, {"terrain.dt0", 284, "460000S", 22, 290}, {"terrain.dt0", 284, "460000E", 21, 290},
+    {"terrain.dt0", 284, "900000N", 21, 284}, {"terrain.dt0", 284, "900000S", 22, 284}, {"terrain.dt0", 284, "000000S", 22, 284},
+    {"terrain.dt0", 291, "0080000E", 22, 293}, {"terrain.dt0", 291, "0070000W", 22, 298}, {"terrain.dt0", 291, "0070030E", 21, 296},
+    {"terrain.dt0", 291, "1800000E", 22, 291}, {"terrain.dt0", 291, "1800000W", 22, 291}, {"terrain.dt0", 291, "1810000W", 21, 291},
+    {"terrain.dt0", 299, "900000N", 22, 299}, {"terrain.dt0", 299, "900000S", 21, 299}, {"terrain.dt0", 299, "460000N", 22, 300},
+    {"terrain.dt0", 299, "475959N", 21, 301}, {"terrain.dt0", 306, "0080000E", 22, 308}, {"terrain.dt0", 306, "007000 E", 21, 312},
+    {"terrain.dt0", 314, "480000N", 22, 315}, {"terrain.dt0", 314, "900000N", 22, 314}, {"terrain.dt0", 314, "47000ON", 21, 319},
+    {"terrain.dt0", 321, "0070000E", 22, 323}, {"terrain.dt0", 321, "0080000N", 21, 328}, {"terrain.dt0", 329, "470000N", 22, 330},
+    {"terrain.dt0", 329, "900000N", 21, 329}, {"terrain.dt0", 329, "460000n", 21, 335}, {"terrain.dt0", 336, "0090000E", 22, 338},
+    {"terrain.dt0", 336, "0080000e", 21, 343}, {"terrain.dt0", 336, "0000000W", 22, 338}, {"terrain.dt0", 336, "2080000E", 21, 336},
+    /* a corner at 0 or 180 has two names, one by one: the place is the part's first byte, whatever differs */
+    {"corners_at_0.dt0", 284, "000000N", 0, 0}, {"corners_at_0.dt0", 291, "0000000E", 0, 0}, {"corners_at_0.dt0", 306, "0000000E", 0, 0},
+    {"corners_at_0.dt0", 329, "000000N", 0, 0}, {"corners_at_0.dt0", 284, "000000E", 21, 284}, {"corners_at_0.dt0", 284, "000001N", 21, 284},
+    {"corners_at_0.dt0", 284, "010000N", 22, 284}, {"corners_at_0.dt0", 291, "0000000N", 21, 291}, {"corners_at_0.dt0", 291, "0010000W", 22, 291},
+    {"corners_at_0.dt0", 306, "0000000 ", 21, 306}, {"corners_at_0.dt0", 306, "0010000E", 22, 306}, {"corners_at_0.dt0", 329, "010000S", 22, 329},
+    {"corners_at_0.dt0", 329, "00000?N", 21, 329},
+    {"north_75.dt0", 291, "1800000W", 0, 0}, {"north_75.dt0", 306, "1800000W", 0, 0}, {"north_75.dt0", 291, "1790000E", 22, 291},
+    {"north_75.dt0", 291, "1800000N", 21, 291}, {"north_75.dt0", 306, "1790000W", 22, 306}, {"north_75.dt0", 306, "1800001W", 21, 306},
+    {"north_74.dt0", 321, "1800000E", 0, 0}, {"north_74.dt0", 336, "1800000E", 0, 0}, {"north_74.dt0", 336, "1790000W", 22, 336},
+    {"north_74.dt0", 321, "1790000E", 22, 321}, {"north_74.dt0", 321, "1800000S", 21, 321},
+    {"south_80.dt0", 321, "0000000E", 0, 0}, {"south_80.dt0", 336, "0000000E", 0, 0}, {"south_80.dt0", 336, "0010000E", 22, 336},
+    {"south_80.dt0", 321, "0000000S", 21, 321},
+    /* and the corners next to those one name */
+    {"corners_at_0.dt0", 299, "010000S", 22, 305}, {"corners_at_0.dt0", 299, "020000N", 22, 300}, {"corners_at_0.dt0", 314, "000000N", 22, 315},
+    {"corners_at_0.dt0", 321, "0010000W", 22, 328}, {"corners_at_0.dt0", 336, "0000000E", 22, 338}, {"north_75.dt0", 321, "1790000E", 22, 328},
+    {"north_75.dt0", 336, "1800000W", 22, 337}, {"north_74.dt0", 291, "1790000W", 22, 298}, {"north_74.dt0", 306, "1800000E", 22, 307},
+    {"south_80.dt0", 291, "0010000E", 22, 298}, {"south_80.dt0", 306, "0000000W", 22, 308},
+    /* latitude 90 has one name */
+    {"north_89.dt0", 299, "900000N", 0, 0}, {"north_89.dt0", 299, "900000S", 21, 305}, {"north_89.dt0", 314, "900000S", 21, 320},
+    {"north_89.dt0", 299, "890000N", 22, 299}, {"north_89.dt0", 284, "900000N", 21, 284}, {"north_89.dt0", 329, "900000N", 21, 329},
 };
 
 static void field_text_case(const void *context) {
@@ -204,10 +286,29 @@ static void field_text_case(const void *context) {
     both_lend(cell, cell_length);
     dted_answer whole = both_intake();
     expect("as stored, the headers are good", both_describe(items).bits, 0);
-    memcpy(cell + field->at, field->text, strlen(field->text));
+    memcpy(cell + field->at, field->text, cell_fields[cell_field_at(field->at)].width);
     both_lend(cell, cell_length);
-    expect("describe", both_describe(items).bits, field->refused ? refusal(2, field->at) : 0);
-    expect("intake", both_intake().bits, field->refused ? refusal(2, field->at) : whole.bits);
+    expect("describe", both_describe(items).bits, field->number ? refusal(field->number, field->place) : 0);
+    expect("intake", both_intake().bits, field->number ? refusal(field->number, field->place) : whole.bits);
+    if (field->number == 0)
+        return;
+    expect("post", both_post(UINT64_MAX, 0).bits, refusal(field->number, field->place));
+    expect("position", both_position(INT64_MAX, 0).bits, refusal(field->number, field->place));
+    expect("edit", both_edit(UINT64_MAX, 0, 9001).bits, refusal(field->number, field->place));
+}
+
+/* Every field is among the texts above, with every number that it can give. */
+static void all_fields_case(const void *context) {
+    bool told[CELL_FIELDS][24] = {{false}};
+    (void)context;
+    for (size_t i = 0; i < COUNT(field_texts); i++)
+        told[cell_field_at(field_texts[i].number ? field_texts[i].place : field_texts[i].at)][field_texts[i].number] = true;
+    for (size_t f = 0; f < CELL_FIELDS; f++) {
+        name_case("literal texts of the field at %zu", cell_fields[f].offset);
+        expect("21", told[f][21], 1);
+        expect("22", told[f][22], cell_fields[f].besides == 22);
+        expect("23", told[f][23], cell_fields[f].besides == 23);
+    }
 }
 
 /* ---- every call, as the header and as the archive declares it ---- */
@@ -280,5 +381,6 @@ void run_literal_cases(void) {
             run_case(range_case, &item);
         for (size_t i = 0; i < COUNT(field_texts); i++)
             run_case(field_text_case, &field_texts[i]);
+        run_case(all_fields_case, NULL);
     }
 }

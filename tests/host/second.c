@@ -1,7 +1,8 @@
 /* second.c - an independent second reader and writer of DTED cells: slow, plain, and written from the scope paper alone.
  *
  * Where the paper has a table, there is a table here; where it has a sentence, a loop that tries every case. Texts are made with
- * snprintf and compared, checksums are added up afresh, the nearest post is found by measuring the way to each.
+ * snprintf and compared, checksums are added up afresh, the nearest post is found by measuring the way to each. What a header field
+ * may ever hold is the set of texts that the writer below puts there, over all that can be described.
  */
 #include "second.h"
 
@@ -62,11 +63,6 @@ static const struct zone *zone_of(int latitude) {
 /* ---- header fields ---- */
 
 enum record { UHL = 0, DSI = 80, ACC = 728 };
-
-struct text {
-    char bytes[16];
-    size_t count;
-};
 
 /* What the headers said so far; each field is judged with what the fields before it said. */
 struct reading {
@@ -229,64 +225,175 @@ static bool acc_third(const struct text *t, struct reading *r) { return accuracy
 static bool acc_fourth(const struct text *t, struct reading *r) { return accuracy(t, &r->accuracies[4]); }
 static bool acc_outlines(const struct text *t, struct reading *r) { (void)r; return is(t, "00"); }
 
-/* The paper's table of fields, in the order in which they are judged; positions count from 1, as there. */
+/* The paper's table of fields, in the order in which they are judged; positions count from 1, as there. Where a field's bytes are
+ * good elsewhere it goes against the level and zone table, if it is an interval or a count, or else against another field. */
+enum against { ANOTHER_FIELD = 22, THE_TABLE = 23 };
+
 static const struct field {
     enum record record;
     unsigned first, last;
     bool (*right)(const struct text *, struct reading *);
-} fields[] = {
-    {UHL, 1, 4, uhl_mark},
-    {UHL, 5, 12, uhl_longitude},
-    {UHL, 13, 20, uhl_latitude},
-    {UHL, 25, 28, uhl_latitude_interval},
-    {UHL, 21, 24, longitude_interval},
-    {UHL, 29, 32, uhl_accuracy},
-    {UHL, 33, 35, uhl_security},
-    {UHL, 48, 51, columns},
-    {UHL, 52, 55, posts},
-    {UHL, 56, 56, uhl_last},
-    {DSI, 1, 3, dsi_mark},
-    {DSI, 4, 4, dsi_security},
-    {DSI, 60, 64, dsi_series},
-    {DSI, 88, 89, dsi_edition},
-    {DSI, 90, 90, dsi_version},
-    {DSI, 127, 135, dsi_specification},
-    {DSI, 142, 144, dsi_vertical},
-    {DSI, 145, 149, dsi_horizontal},
-    {DSI, 186, 194, dsi_latitude},
-    {DSI, 195, 204, dsi_longitude},
-    {DSI, 205, 211, south},
-    {DSI, 212, 219, west},
-    {DSI, 220, 226, north},
-    {DSI, 227, 234, west},
-    {DSI, 235, 241, north},
-    {DSI, 242, 249, east},
-    {DSI, 250, 256, south},
-    {DSI, 257, 264, east},
-    {DSI, 265, 273, dsi_orientation},
-    {DSI, 274, 277, latitude_interval},
-    {DSI, 278, 281, longitude_interval},
-    {DSI, 282, 285, posts},
-    {DSI, 286, 289, columns},
-    {DSI, 290, 291, dsi_partial},
-    {ACC, 1, 3, acc_mark},
-    {ACC, 4, 7, acc_first},
-    {ACC, 8, 11, acc_second},
-    {ACC, 12, 15, acc_third},
-    {ACC, 16, 19, acc_fourth},
-    {ACC, 56, 57, acc_outlines},
+    enum against against;
+} fields[SECOND_FIELDS] = {
+    {UHL, 1, 4, uhl_mark, ANOTHER_FIELD},
+    {UHL, 5, 12, uhl_longitude, ANOTHER_FIELD},
+    {UHL, 13, 20, uhl_latitude, ANOTHER_FIELD},
+    {UHL, 25, 28, uhl_latitude_interval, ANOTHER_FIELD},
+    {UHL, 21, 24, longitude_interval, THE_TABLE},
+    {UHL, 29, 32, uhl_accuracy, ANOTHER_FIELD},
+    {UHL, 33, 35, uhl_security, ANOTHER_FIELD},
+    {UHL, 48, 51, columns, THE_TABLE},
+    {UHL, 52, 55, posts, THE_TABLE},
+    {UHL, 56, 56, uhl_last, ANOTHER_FIELD},
+    {DSI, 1, 3, dsi_mark, ANOTHER_FIELD},
+    {DSI, 4, 4, dsi_security, ANOTHER_FIELD},
+    {DSI, 60, 64, dsi_series, ANOTHER_FIELD},
+    {DSI, 88, 89, dsi_edition, ANOTHER_FIELD},
+    {DSI, 90, 90, dsi_version, ANOTHER_FIELD},
+    {DSI, 127, 135, dsi_specification, ANOTHER_FIELD},
+    {DSI, 142, 144, dsi_vertical, ANOTHER_FIELD},
+    {DSI, 145, 149, dsi_horizontal, ANOTHER_FIELD},
+    {DSI, 186, 194, dsi_latitude, ANOTHER_FIELD},
+    {DSI, 195, 204, dsi_longitude, ANOTHER_FIELD},
+    {DSI, 205, 211, south, ANOTHER_FIELD},
+    {DSI, 212, 219, west, ANOTHER_FIELD},
+    {DSI, 220, 226, north, ANOTHER_FIELD},
+    {DSI, 227, 234, west, ANOTHER_FIELD},
+    {DSI, 235, 241, north, ANOTHER_FIELD},
+    {DSI, 242, 249, east, ANOTHER_FIELD},
+    {DSI, 250, 256, south, ANOTHER_FIELD},
+    {DSI, 257, 264, east, ANOTHER_FIELD},
+    {DSI, 265, 273, dsi_orientation, ANOTHER_FIELD},
+    {DSI, 274, 277, latitude_interval, THE_TABLE},
+    {DSI, 278, 281, longitude_interval, THE_TABLE},
+    {DSI, 282, 285, posts, THE_TABLE},
+    {DSI, 286, 289, columns, THE_TABLE},
+    {DSI, 290, 291, dsi_partial, ANOTHER_FIELD},
+    {ACC, 1, 3, acc_mark, ANOTHER_FIELD},
+    {ACC, 4, 7, acc_first, ANOTHER_FIELD},
+    {ACC, 8, 11, acc_second, ANOTHER_FIELD},
+    {ACC, 12, 15, acc_third, ANOTHER_FIELD},
+    {ACC, 16, 19, acc_fourth, ANOTHER_FIELD},
+    {ACC, 56, 57, acc_outlines, ANOTHER_FIELD},
 };
+
+static size_t offset_of(size_t f) {
+    return (size_t)fields[f].record + fields[f].first - 1;
+}
+
+static struct text text_in(const uint8_t *headers, size_t f) {
+    struct text text = {{0}, fields[f].last - fields[f].first + 1};
+    memcpy(text.bytes, headers + offset_of(f), text.count);
+    return text;
+}
+
+/* ---- what a field may ever hold ---- */
+
+static bool item_allowed(int item, int64_t value);
+
+static struct texts possible[SECOND_FIELDS];
+
+static void add_fields(const uint8_t *headers) {
+    for (size_t f = 0; f < SECOND_FIELDS; f++) {
+        struct text text = text_in(headers, f);
+        texts_add(&possible[f], &text);
+    }
+}
+
+/* The other letter, where a corner's part is at 0 degrees or at the angle `either`. */
+static void change_letter(uint8_t *part, const char *zero, const char *either, const char *letters) {
+    size_t digits = strlen(zero);
+    uint8_t *letter = part + digits + 4;
+    if (memcmp(part, zero, digits) == 0 || memcmp(part, either, digits) == 0)
+        *letter = (uint8_t)(*letter == letters[0] ? letters[1] : letters[0]);
+}
+
+/* The headers of these items, as they are written and with the other letter in each corner that may have it. */
+static void add_headers(const int64_t *items) {
+    uint8_t headers[HEADERS];
+    second_headers(headers, items);
+    add_fields(headers);
+    for (size_t corner = DSI + 204; corner < DSI + 264; corner += 15) {
+        change_letter(headers + corner, "00", "00", "NS");
+        change_letter(headers + corner + 7, "000", "180", "EW");
+    }
+    add_fields(headers);
+}
+
+/* No field is made of more than level and latitude together, or of one other item: so each other item takes its values by itself. */
+static void add_all_headers(void) {
+    static const int64_t plain[ITEMS] = {0, 1, 1, 'S', 1, 'A', 0, 0, 0, 0, 0, 0, 0};
+    int64_t items[ITEMS];
+    memcpy(items, plain, sizeof items);
+    for (items[0] = 0; items[0] <= 2; items[0]++)
+        for (items[1] = -90; items[1] <= 89; items[1]++)
+            add_headers(items);
+    for (int64_t value = -180; value <= 9999; value++) {
+        memcpy(items, plain, sizeof items);
+        for (int item = 3; item <= ITEMS; item++)
+            if (item_allowed(item, value))
+                items[item - 1] = value;
+        add_headers(items);
+    }
+}
+
+const struct texts *second_possible(size_t f) {
+    if (possible[f].count == 0) {
+        add_all_headers();
+        for (size_t each = 0; each < SECOND_FIELDS; each++)
+            texts_close(&possible[each]);
+    }
+    return &possible[f];
+}
+
+/* ---- a refused field ---- */
+
+/* How many texts would have passed in a field, given what the fields before it said, and which one if it is alone. Kept from the last
+ * time, since case after case asks the same. */
+static struct due {
+    struct reading before;
+    size_t passing; /* 2: two or more */
+    struct text text;
+} dues[SECOND_FIELDS];
+
+static const struct due *due_in(size_t f, const struct reading *before) {
+    const struct texts *tried = second_possible(f);
+    struct due *due = &dues[f];
+    if (due->passing > 0 && memcmp(&due->before, before, sizeof *before) == 0)
+        return due;
+    memcpy(&due->before, before, sizeof *before);
+    due->passing = 0;
+    for (size_t i = 0; i < tried->count && due->passing < 2; i++) {
+        struct reading reading;
+        memcpy(&reading, before, sizeof reading);
+        if (fields[f].right(&tried->list[i], &reading)) {
+            due->text = tried->list[i];
+            due->passing++;
+        }
+    }
+    return due;
+}
+
+/* The number by whether any header has these bytes there; the place by how many texts would have passed. */
+static uint64_t refused_field(size_t f, const struct text *text, const struct reading *before) {
+    unsigned number = texts_have(second_possible(f), text) ? fields[f].against : 21;
+    const struct due *due = due_in(f, before);
+    size_t at = 0;
+    while (due->passing == 1 && due->text.bytes[at] == text->bytes[at])
+        at++;
+    return refused(number, offset_of(f) + at);
+}
 
 static uint64_t read_headers(const uint8_t *cell, size_t length, struct reading *reading) {
     memset(reading, 0, sizeof *reading);
     if (length < HEADERS)
         return refused(1, length);
-    for (size_t f = 0; f < sizeof fields / sizeof fields[0]; f++) {
-        size_t offset = (size_t)fields[f].record + fields[f].first - 1;
-        struct text text = {{0}, fields[f].last - fields[f].first + 1};
-        memcpy(text.bytes, cell + offset, text.count);
+    for (size_t f = 0; f < SECOND_FIELDS; f++) {
+        struct text text = text_in(cell, f);
+        struct reading before;
+        memcpy(&before, reading, sizeof before);
         if (!fields[f].right(&text, reading))
-            return refused(2, offset);
+            return refused_field(f, &text, &before);
     }
     return 0;
 }

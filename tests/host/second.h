@@ -7,6 +7,8 @@
 #ifndef SECOND_H
 #define SECOND_H
 
+#include "texts.h"
+
 #include <stddef.h>
 #include <stdint.h>
 
@@ -21,5 +23,9 @@ uint64_t second_write_column(uint8_t *out, size_t room, uint64_t level, uint64_t
 
 /* The headers alone, of items that are all in range: tests cut cells after any column. */
 void second_headers(uint8_t *out, const int64_t *items);
+
+/* The forty header fields, in the order in which they are judged, and each text that some accepted header has in field `f`. */
+#define SECOND_FIELDS 40
+const struct texts *second_possible(size_t f);
 
 #endif
