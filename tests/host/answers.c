@@ -51,11 +51,12 @@ static const struct taken {
     uint64_t due[TAKERS];
 } all_taken[] = {
     {"a refusal", 0x0500000000000E5E, {5, 3678, 0, 0, 0, 0, 0, NO_HEIGHT, 0, 0}},
+    {"a refusal of a header field", 0x1700000000000169, {23, 361, 0, 0, 0, 0, 0, NO_HEIGHT, 0, 0}},
     {"a refusal at 0", 0x0800000000000000, {8, 0, 0, 0, 0, 0, 0, NO_HEIGHT, 0, 0}},
     {"a refusal at the last place", 0x0CFFFFFFFFFFFFFF, {12, 0xFFFFFFFFFFFFFF, 0, 0, 0, 0, 0, NO_HEIGHT, 0, 0}},
     {"the last number", 0xFFFFFFFFFFFFFFFF, {255, 0xFFFFFFFFFFFFFF, 0, 0, 0, 0, 0, NO_HEIGHT, 0, 0}},
     {"a refusal like a grid", 0x0101000200790079, {1, 0x1000200790079, 0, 0, 0, 0, 0, NO_HEIGHT, 0, 0}},
-    {"a refusal like a height", 0x02020000000001E6, {2, 0x20000000001E6, 0, 0, 0, 0, 0, NO_HEIGHT, 0, 0}},
+    {"a refusal like a height", 0x15020000000001E6, {21, 0x20000000001E6, 0, 0, 0, 0, 0, NO_HEIGHT, 0, 0}},
     {"a refusal like a position", 0x0303003C003D01E6, {3, 0x3003C003D01E6, 0, 0, 0, 0, 0, NO_HEIGHT, 0, 0}},
     {"an act", 0, {0, 0, 0, 0, 0, 0, 0, NO_HEIGHT, 0, 0}},
     {"an act with values", 0x0000123456789ABC, {0, 0, 0, 0, 0, 0, 0, NO_HEIGHT, 0, 0}},

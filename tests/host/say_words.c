@@ -42,7 +42,7 @@ static void say_far(void) {
 }
 
 int main(void) {
-    static const uint64_t places[] = {0, 1, 13, 14, 24, 3678, 25981042, UINT64_C(0xFFFFFFFFFFFFFF)};
+    static const uint64_t places[] = {0, 1, 13, 14, 24, 328, 3678, 25981042, UINT64_C(0xFFFFFFFFFFFFFF)};
     for (uint64_t offset = 0; offset < 3500; offset++)
         say_field(offset);
     for (unsigned number = 0; number < 256; number++)
@@ -51,7 +51,7 @@ int main(void) {
         say_item(number);
     say_far();
     for (size_t i = 0; i < COUNT(places); i++)
-        for (uint64_t number = 0; number < 16; number++)
-            say_refusal(number < 15 ? number : 255, places[i]);
+        for (uint64_t number = 0; number < 26; number++)
+            say_refusal(number < 25 ? number : 255, places[i]);
     return 0;
 }

@@ -52,7 +52,7 @@ def plain(name, latitude, longitude, columns, accepted):
     """As GDAL writes without being told more: a NUL in each accuracy."""
     check("theirs.silent", name, [], made(latitude, longitude, columns, {}))
     check("theirs.nul", name, b"NA\0 " * 4, load(PATH)[ACCURACIES])
-    check("theirs.plain", name, "refused 2 731", ours.judge(PATH))
+    check("theirs.plain", name, "refused 21 731", ours.judge(PATH))
     mend(PATH)
     check("theirs.mended", name, accepted, ours.judge(PATH))
 
@@ -142,7 +142,7 @@ def translated():
                  ours.describe(PATH)[ours.PARTIAL] == coverage(ours.heights(3, True, 121, 121)))
     gdal.GetDriverByName("GTiff").CreateCopy("plain.tif", theirs.source(46, 7, ramp(), {}))
     by_command(plainly, "plain.tif")
-    check("theirs.translated", "a GeoTIFF without -mo", "refused 2 731", ours.judge(PATH))
+    check("theirs.translated", "a GeoTIFF without -mo", "refused 21 731", ours.judge(PATH))
     by_command(MAKE, "plain.tif")
     check("theirs.translated", "a GeoTIFF with four -mo", "accepted 0 121 121", ours.judge(PATH))
 
@@ -167,15 +167,15 @@ def heights_out_of_range():
 
 def loose_metadata():
     """Metadata that GDAL writes into the headers as they are given."""
-    cases = (("DTED_DataEdition", b"7 ", 167, 167), ("DTED_VerticalAccuracy_UHL", b"30  ", 28, 28),
-             ("DTED_HorizontalAccuracy", b"30  ", 731, 731), ("DTED_HorizontalDatum", b"WGS72", 224, 224),
-             ("DTED_SecurityCode_UHL", b"R  ", 32, 83), ("DTED_SecurityCode_DSI", b"R", 83, 83))
-    for item, filled, at, place in cases:
+    cases = (("DTED_DataEdition", b"7 ", 167, "refused 21 167"), ("DTED_VerticalAccuracy_UHL", b"30  ", 28, "refused 21 28"),
+             ("DTED_HorizontalAccuracy", b"30  ", 731, "refused 21 731"), ("DTED_HorizontalDatum", b"WGS72", 224, "refused 21 227"),
+             ("DTED_SecurityCode_UHL", b"R  ", 32, "refused 22 83"), ("DTED_SecurityCode_DSI", b"R", 83, "refused 22 83"))
+    for item, filled, at, due in cases:
         text = filled.decode().strip()
         made(46, 7, ramp(), {**theirs.NOT_AVAILABLE, item: text})
         check("theirs.loose", f"{item}={text}", filled, load(PATH)[at:at + len(filled)])
         line = ours.judge(PATH)
-        fact("theirs.loose", f"metadata {item}={text} is written so; intake: {line}", line == f"refused 2 {place}")
+        fact("theirs.loose", f"metadata {item}={text} is written so; intake: {line}", line == due)
 
 
 def wrong_width():
@@ -191,7 +191,7 @@ def wrong_width():
     mend(PATH)
     fact("theirs.too_narrow", f"61 columns at 46 N, where the zone has 121: GDAL fails and leaves a file; intake: {before}, "
          f"and with its accuracies mended: {ours.judge(PATH)}",
-         theirs.kinds(told_of) == "error" and before == "refused 2 731" and ours.judge(PATH) == "refused 5 3678")
+         theirs.kinds(told_of) == "error" and before == "refused 21 731" and ours.judge(PATH) == "refused 5 3678")
 
 
 def tape_labels():
@@ -202,7 +202,7 @@ def tape_labels():
     got, said = theirs.read(PATH)
     same = got is not None and (got == theirs.read(OURS)[0]).all()
     fact("theirs.tape", f"tape labels in front: GDAL reads the cell and says {theirs.kinds(said)}; intake: {ours.judge(PATH)}",
-         same and not said and ours.judge(PATH) == "refused 2 0")
+         same and not said and ours.judge(PATH) == "refused 21 0")
 
 
 def run():
@@ -211,7 +211,7 @@ def run():
     for cell in cells:
         one(*cell)
     print(f"{len(cells)} cells")
-    fact("theirs.nul", "GDAL writes each accuracy of the ACC as N, A, a NUL, a blank unless told more; intake: refused 2 731")
+    fact("theirs.nul", "GDAL writes each accuracy of the ACC as N, A, a NUL, a blank unless told more; intake: refused 21 731")
     for part in (header_bytes, side_file, translated, heights_out_of_range, loose_metadata, wrong_width, tape_labels):
         forget()
         part()

@@ -8,9 +8,12 @@ from running import ROOT, filled, fresh, run, same, second_writer, stored, told
 
 RECORDS = {"UHL": 0, "DSI": 80, "ACC": 728}
 GOOD = "accepted, level 0, 21 columns of 121 posts"
+IMPOSSIBLE = "refused 21: a header field has bytes that are never accepted there"
 # the words of every number that a file can cause, the first cell that causes it, and where it is
 LINES = (("empty.dt0", "refused 1: fewer bytes than the headers have (length 0)"),
-         ("edition_00.dt0", "refused 2: a header field breaks its rule (offset 167: DSI 88-89, edition)"),
+         ("edition_00.dt0", f"{IMPOSSIBLE} (offset 167: DSI 88-89, edition)"),
+         ("wrong_interval.dt0", f"{IMPOSSIBLE} (offset 21: UHL 21-24, longitude interval)"),
+         ("other_latitude.dt0", "refused 22: a header field contradicts another field (offset 266: DSI 186-194, origin latitude)"),
          ("one_short.dt0", "refused 3: a column is not there whole (offset 8508), column 20"),
          ("renumbered_column.dt0", "refused 4: a preamble field is wrong (offset 3683), column 1"),
          ("wrong_first_checksum.dt0", "refused 5: a checksum differs (offset 3678), column 0"),
@@ -18,6 +21,13 @@ LINES = (("empty.dt0", "refused 1: fewer bytes than the headers have (length 0)"
          ("void_in_complete.dt0", "refused 6: a post word is not allowed (offset 8756), column 20, post 120"),
          ("one_long.dt0", "refused 7: bytes stand after the last column (length due 8762)"),
          ("north_89.dt0", GOOD))
+OFF_TABLE = "refused 23: an interval or a count is not that of level and zone"
+# north_89.dt0 with another text in a field
+TEXTS = ((47, "0031", f"{OFF_TABLE} (offset 49: UHL 48-51, columns)"),
+         (357, "1200", f"{OFF_TABLE} (offset 358: DSI 278-281, longitude interval)"),
+         (361, "1201", f"{OFF_TABLE} (offset 361: DSI 282-285, posts to a column)"),
+         (361, "0061", f"{IMPOSSIBLE} (offset 362: DSI 282-285, posts to a column)"),
+         (139, "DTED1", "refused 22: a header field contradicts another field (offset 143: DSI 60-64, series and level)"))
 
 
 def bare(line):
@@ -42,21 +52,28 @@ def stored_cells(intake):
 
 
 def scope_fields():
-    """The header fields of docs/SCOPE.md: offset, and record with positions."""
+    """The header fields of docs/SCOPE.md: offsets of the first and the last byte, and record with positions."""
     rows = re.findall(r"^\| H\d.*? \| (UHL|DSI|ACC) \| ([^|]*) \|", (ROOT / "docs/SCOPE.md").read_text(), re.M)
     for record, spans in rows:
         for positions in spans.split(", "):
-            yield RECORDS[record] + int(positions.split("-")[0]) - 1, f"{record} {positions}"
+            first, last = (RECORDS[record] + int(positions.split("-")[end]) - 1 for end in (0, -1))
+            yield first, last, f"{record} {positions}"
 
 
 def fields(folder):
-    """Each header field broken by itself is named."""
+    """Each header field broken by itself is named, at its first byte and at its last; texts of other cells by what they go against."""
     good = stored("north_89.dt0")[0]
     same("fields of the scope", 40, len(list(scope_fields())))
-    for offset, name in scope_fields():
-        cell = filled(folder / "field", second_writer.with_byte(good, offset, ord("?")))
+    for first, last, name in scope_fields():
+        cell = filled(folder / "field", second_writer.with_byte(good, first, ord("?")))
         line = run("check", cell).stdout.decode()
-        same(name, f"{cell}: refused 2: a header field breaks its rule (offset {offset}: {name}", line.split(",")[0])
+        same(name, f"{cell}: {IMPOSSIBLE} (offset {first}: {name}", line.split(",")[0])
+        cell = filled(folder / "field", second_writer.with_byte(good, last, ord("?")))
+        line = run("check", cell).stdout.decode().split(",")[0]
+        same(f"{name}, its last byte", True, line in [f"{cell}: {IMPOSSIBLE} (offset {place}: {name}" for place in (first, last)])
+    for at, text, line in TEXTS:
+        cell = filled(folder / "field", second_writer.with_texts(good, text, at))
+        told(f"{text} at {at}", ("check", cell), f"{cell}: {line}\n", status=1)
 
 
 def columns_of_levels(folder):
@@ -125,8 +142,7 @@ def all_kinds(folder):
     """Files that are no plain ones, and files that never end."""
     data = stored("north_89.dt0")[0]
     told("/dev/null", ("check", "/dev/null"), "/dev/null: refused 1: fewer bytes than the headers have (length 0)\n", status=1)
-    first = "refused 2: a header field breaks its rule (offset 0: UHL 1-4, record name)"
-    told("/dev/zero", ("check", "/dev/zero"), f"/dev/zero: {first}\n", status=1)
+    told("/dev/zero", ("check", "/dev/zero"), f"/dev/zero: {IMPOSSIBLE} (offset 0: UHL 1-4, record name)\n", status=1)
     told("standard input", ("check", "-"), f"-: {GOOD}\n", input=data)
     told("standard input twice", ("check", "-", "-"), f"-: {GOOD}\n-: {LINES[0][1]}\n", status=1, input=data)
     told("standard input behind --", ("check", "--", "-"), f"-: {GOOD}\n", input=data)
@@ -156,7 +172,8 @@ def test(folder, intake):
     for name, line in LINES:
         cell = ROOT / "cells" / name
         told(name, ("check", cell), f"{cell}: {line}\n", status=int(line != GOOD))
-    same("numbers that a file can cause", set("1234567"), {line[8] for _, line in LINES if line != GOOD})
+    numbers = {int(line.split()[1].strip(":")) for *_, line in (*LINES, *TEXTS) if line != GOOD}
+    same("numbers that a file can cause", {1, 3, 4, 5, 6, 7, 21, 22, 23}, numbers)
     stored_cells(intake)
     fields(folder)
     columns_of_levels(folder)
