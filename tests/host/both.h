@@ -1,8 +1,8 @@
 /* both.h - each call made twice, of the library and of the second reader and writer, on the same numbers and bytes.
  *
  * The library's bytes stand between pages that cannot be touched. Answers, filled arrays and every lent byte are compared, and
- * after a refused call also with the bytes before it. Numbers that no call gives, and places of 21 to 23 outside a field that can give
- * them, are differences, too. A difference is told to differ(), which the program defines.
+ * after a refused call also with the bytes before it. Numbers that no call gives, and places of 21 to 23 outside a field that can
+ * give them, are differences, too. A difference is told to differ(), which the program defines.
  */
 #ifndef BOTH_H
 #define BOTH_H

@@ -266,14 +266,14 @@ static void field_case(const void *context) {
             described_with(field, cell_texts[t]);
 }
 
-/* How many texts some accepted header has in each field, by the paper: an accuracy is 0 to 9,999 or NA, a corner has a second letter at
- * 0 degrees, and at longitude 180. */
+/* How many texts some accepted header has in each field, by the paper: an accuracy is 0 to 9,999 or NA, a corner has a second
+ * letter at 0 degrees, and at longitude 180. */
 static const size_t possible_counts[CELL_FIELDS] = {
     1, 360, 180, 3, 13, 10001, 4, 13, 3, 1, 1, 4, 3, 99, 26, 1, 2, 1, 180, 360,
     181, 362, 181, 362, 181, 362, 181, 362, 1, 3, 13, 3, 13, 100, 1, 10001, 10001, 10001, 10001, 1,
 };
 
-/* No text that some header has in a field is called impossible, whatever headers it is put into; of long lists some texts are tried. */
+/* No text that some header has in a field is called impossible, whatever headers it is put into; of long lists some are tried. */
 static void possible_case(const void *context) {
     const struct field_sweep *sweep = context;
     const struct texts *texts = second_possible(sweep->field);

@@ -168,9 +168,9 @@ static void range_case(const void *context) {
 
 /* ---- single fields ---- */
 
-/* A text in a field of a stored cell: the number and the place that are told, or 0 where it is good there. Worked out by hand: 21 if no
- * accepted header has the text in that field, else 23 for an interval or a count and 22 for another field; the place is the first byte
- * that is not as due, or the field's first byte where several texts are good there. */
+/* A text in a field of a stored cell: the number and the place that are told, or 0 where it is good there. Worked out by hand: 21
+ * if no accepted header has the text in that field, else 23 for an interval or a count and 22 for another field; the place is the
+ * first byte that is not as due, or the field's first byte where several texts are good there. */
 static const struct field_text {
     const char *name;
     size_t at;
@@ -182,15 +182,15 @@ static const struct field_text {
     {"terrain.dt0", 0, "HDR1", 21, 0}, {"terrain.dt0", 55, "1", 21, 55}, {"terrain.dt0", 80, "DS1", 21, 82},
     {"terrain.dt0", 80, "dSI", 21, 80}, {"terrain.dt0", 206, "PRF89020A", 21, 214}, {"terrain.dt0", 206, "PRF89O20B", 21, 211},
     {"terrain.dt0", 206, "         ", 21, 206}, {"terrain.dt0", 224, "WGS72", 21, 227}, {"terrain.dt0", 224, "wGS84", 21, 224},
-    {"terrain.dt0", 344, "0000001.0", 21, 350}, {"terrain.dt0", 344, "0000000.1", 21, 352}, {"terrain.dt0", 344, "0000000,0", 21, 351},
-    {"terrain.dt0", 728, "ACX", 21, 730}, {"terrain.dt0", 728, "\0CC", 21, 728}, {"terrain.dt0", 783, "02", 21, 784},
-    {"terrain.dt0", 783, "10", 21, 783},
+    {"terrain.dt0", 344, "0000001.0", 21, 350}, {"terrain.dt0", 344, "0000000.1", 21, 352},
+    {"terrain.dt0", 344, "0000000,0", 21, 351}, {"terrain.dt0", 728, "ACX", 21, 730}, {"terrain.dt0", 728, "\0CC", 21, 728},
+    {"terrain.dt0", 783, "02", 21, 784}, {"terrain.dt0", 783, "10", 21, 783},
     /* origins: any good one would have passed, so the place is the field's first byte; one that is good is missed further on */
     {"terrain.dt0", 4, "0070001E", 21, 4}, {"terrain.dt0", 4, "0070000e", 21, 4}, {"terrain.dt0", 4, "1810000W", 21, 4},
     {"corners_at_0.dt0", 4, "0000000W", 21, 4}, {"north_75.dt0", 4, "1800000E", 21, 4}, {"terrain.dt0", 4, "0070000W", 22, 283},
     {"terrain.dt0", 4, "0170000E", 22, 275}, {"terrain.dt0", 12, "0900000N", 21, 12}, {"terrain.dt0", 12, "0460100N", 21, 12},
-    {"corners_at_0.dt0", 12, "0000000S", 21, 12}, {"terrain.dt0", 12, "0450000N", 22, 266}, {"terrain.dt0", 12, "0460000S", 22, 273},
-    {"terrain.dt0", 12, "0500000N", 23, 21},
+    {"corners_at_0.dt0", 12, "0000000S", 21, 12}, {"terrain.dt0", 12, "0450000N", 22, 266},
+    {"terrain.dt0", 12, "0460000S", 22, 273}, {"terrain.dt0", 12, "0500000N", 23, 21},
     /* the level: never 23; another level's is missed further on */
     {"terrain.dt0", 24, "0301", 21, 24}, {"terrain.dt0", 24, "0600", 21, 24}, {"terrain.dt0", 24, "0 30", 21, 24},
     {"terrain.dt0", 24, "0030", 23, 21}, {"terrain.dt0", 24, "0010", 23, 21},
@@ -218,9 +218,10 @@ static const struct field_text {
     {"every_item_level_1.dt1", 365, "0201", 23, 366}, {"every_item_level_1.dt1", 365, "0300", 21, 368},
     /* posts: no level has so many as zone II has columns */
     {"terrain.dt0", 51, "0061", 21, 52}, {"terrain.dt0", 51, "0601", 21, 52}, {"terrain.dt0", 51, "1201", 23, 51},
-    {"terrain.dt0", 51, "3601", 23, 51}, {"every_item_level_1.dt1", 51, "0121", 23, 51}, {"every_item_level_1.dt1", 51, "1801", 21, 52},
-    {"terrain.dt0", 361, "0061", 21, 362}, {"terrain.dt0", 361, "1201", 23, 361}, {"terrain.dt0", 361, "0 21", 21, 362},
-    {"every_item_level_1.dt1", 361, "3601", 23, 361}, {"every_item_level_1.dt1", 361, "1202", 21, 364},
+    {"terrain.dt0", 51, "3601", 23, 51}, {"every_item_level_1.dt1", 51, "0121", 23, 51},
+    {"every_item_level_1.dt1", 51, "1801", 21, 52}, {"terrain.dt0", 361, "0061", 21, 362}, {"terrain.dt0", 361, "1201", 23, 361},
+    {"terrain.dt0", 361, "0 21", 21, 362}, {"every_item_level_1.dt1", 361, "3601", 23, 361},
+    {"every_item_level_1.dt1", 361, "1202", 21, 364},
     /* intervals of the DSI */
     {"terrain.dt0", 353, "0030", 23, 354}, {"terrain.dt0", 353, "0010", 23, 354}, {"terrain.dt0", 353, "0600", 21, 354},
     {"terrain.dt0", 353, "030O", 21, 356}, {"every_item_level_1.dt1", 353, "0300", 23, 354},
@@ -239,43 +240,53 @@ static const struct field_text {
     {"every_item.dt0", 221, "E96", 0, 0}, {"every_item.dt0", 221, "E84", 21, 221}, {"every_item.dt0", 221, "MSl", 21, 221},
     {"every_item.dt0", 369, "99", 0, 0}, {"every_item.dt0", 369, "1 ", 21, 369}, {"every_item.dt0", 369, "1A", 21, 369},
     /* the DSI's origin has one name: 000W, 00S, 180E and 90N are nobody's */
-    {"corners_at_0.dt0", 265, "000000.0S", 21, 273}, {"terrain.dt0", 265, "470000.0N", 22, 266}, {"terrain.dt0", 265, "460000.0S", 22, 273},
-    {"terrain.dt0", 265, "900000.0N", 21, 265}, {"terrain.dt0", 265, "900000.0S", 22, 265}, {"terrain.dt0", 265, "460000.1N", 21, 272},
+    {"corners_at_0.dt0", 265, "000000.0S", 21, 273}, {"terrain.dt0", 265, "470000.0N", 22, 266},
+    {"terrain.dt0", 265, "460000.0S", 22, 273}, {"terrain.dt0", 265, "900000.0N", 21, 265},
+    {"terrain.dt0", 265, "900000.0S", 22, 265}, {"terrain.dt0", 265, "460000.1N", 21, 272},
     {"terrain.dt0", 265, "460001.0N", 21, 270}, {"terrain.dt0", 265, "46000000N", 21, 271},
-    {"corners_at_0.dt0", 274, "0000000.0W", 21, 283}, {"terrain.dt0", 274, "0000000.0W", 21, 276}, {"terrain.dt0", 274, "0000000.0E", 22, 276},
-    {"north_75.dt0", 274, "1800000.0E", 21, 283}, {"terrain.dt0", 274, "1800000.0E", 21, 274}, {"terrain.dt0", 274, "1800000.0W", 22, 274},
+    {"corners_at_0.dt0", 274, "0000000.0W", 21, 283}, {"terrain.dt0", 274, "0000000.0W", 21, 276},
+    {"terrain.dt0", 274, "0000000.0E", 22, 276}, {"north_75.dt0", 274, "1800000.0E", 21, 283},
+    {"terrain.dt0", 274, "1800000.0E", 21, 274}, {"terrain.dt0", 274, "1800000.0W", 22, 274},
     {"terrain.dt0", 274, "0070000.0W", 22, 283}, {"terrain.dt0", 274, "0070100.0E", 21, 278},
     /* corners away from 0 and 180: one text each, at the first byte that differs */
     {"terrain.dt0", 284, "450000N", 22, 285}, {"terrain.dt0", 284, "460000S", 22, 290}, {"terrain.dt0", 284, "460000E", 21, 290},
     {"terrain.dt0", 284, "900000N", 21, 284}, {"terrain.dt0", 284, "900000S", 22, 284}, {"terrain.dt0", 284, "000000S", 22, 284},
-    {"terrain.dt0", 291, "0080000E", 22, 293}, {"terrain.dt0", 291, "0070000W", 22, 298}, {"terrain.dt0", 291, "0070030E", 21, 296},
-    {"terrain.dt0", 291, "1800000E", 22, 291}, {"terrain.dt0", 291, "1800000W", 22, 291}, {"terrain.dt0", 291, "1810000W", 21, 291},
+    {"terrain.dt0", 291, "0080000E", 22, 293}, {"terrain.dt0", 291, "0070000W", 22, 298},
+    {"terrain.dt0", 291, "0070030E", 21, 296}, {"terrain.dt0", 291, "1800000E", 22, 291},
+    {"terrain.dt0", 291, "1800000W", 22, 291}, {"terrain.dt0", 291, "1810000W", 21, 291},
     {"terrain.dt0", 299, "900000N", 22, 299}, {"terrain.dt0", 299, "900000S", 21, 299}, {"terrain.dt0", 299, "460000N", 22, 300},
-    {"terrain.dt0", 299, "475959N", 21, 301}, {"terrain.dt0", 306, "0080000E", 22, 308}, {"terrain.dt0", 306, "007000 E", 21, 312},
-    {"terrain.dt0", 314, "480000N", 22, 315}, {"terrain.dt0", 314, "900000N", 22, 314}, {"terrain.dt0", 314, "47000ON", 21, 319},
-    {"terrain.dt0", 321, "0070000E", 22, 323}, {"terrain.dt0", 321, "0080000N", 21, 328}, {"terrain.dt0", 329, "470000N", 22, 330},
-    {"terrain.dt0", 329, "900000N", 21, 329}, {"terrain.dt0", 329, "460000n", 21, 335}, {"terrain.dt0", 336, "0090000E", 22, 338},
-    {"terrain.dt0", 336, "0080000e", 21, 343}, {"terrain.dt0", 336, "0000000W", 22, 338}, {"terrain.dt0", 336, "2080000E", 21, 336},
+    {"terrain.dt0", 299, "475959N", 21, 301}, {"terrain.dt0", 306, "0080000E", 22, 308},
+    {"terrain.dt0", 306, "007000 E", 21, 312}, {"terrain.dt0", 314, "480000N", 22, 315}, {"terrain.dt0", 314, "900000N", 22, 314},
+    {"terrain.dt0", 314, "47000ON", 21, 319}, {"terrain.dt0", 321, "0070000E", 22, 323},
+    {"terrain.dt0", 321, "0080000N", 21, 328}, {"terrain.dt0", 329, "470000N", 22, 330}, {"terrain.dt0", 329, "900000N", 21, 329},
+    {"terrain.dt0", 329, "460000n", 21, 335}, {"terrain.dt0", 336, "0090000E", 22, 338},
+    {"terrain.dt0", 336, "0080000e", 21, 343}, {"terrain.dt0", 336, "0000000W", 22, 338},
+    {"terrain.dt0", 336, "2080000E", 21, 336},
     /* a corner at 0 or 180 has two names, one by one: the place is the part's first byte, whatever differs */
-    {"corners_at_0.dt0", 284, "000000N", 0, 0}, {"corners_at_0.dt0", 291, "0000000E", 0, 0}, {"corners_at_0.dt0", 306, "0000000E", 0, 0},
-    {"corners_at_0.dt0", 329, "000000N", 0, 0}, {"corners_at_0.dt0", 284, "000000E", 21, 284}, {"corners_at_0.dt0", 284, "000001N", 21, 284},
-    {"corners_at_0.dt0", 284, "010000N", 22, 284}, {"corners_at_0.dt0", 291, "0000000N", 21, 291}, {"corners_at_0.dt0", 291, "0010000W", 22, 291},
-    {"corners_at_0.dt0", 306, "0000000 ", 21, 306}, {"corners_at_0.dt0", 306, "0010000E", 22, 306}, {"corners_at_0.dt0", 329, "010000S", 22, 329},
-    {"corners_at_0.dt0", 329, "00000?N", 21, 329},
-    {"north_75.dt0", 291, "1800000W", 0, 0}, {"north_75.dt0", 306, "1800000W", 0, 0}, {"north_75.dt0", 291, "1790000E", 22, 291},
-    {"north_75.dt0", 291, "1800000N", 21, 291}, {"north_75.dt0", 306, "1790000W", 22, 306}, {"north_75.dt0", 306, "1800001W", 21, 306},
-    {"north_74.dt0", 321, "1800000E", 0, 0}, {"north_74.dt0", 336, "1800000E", 0, 0}, {"north_74.dt0", 336, "1790000W", 22, 336},
-    {"north_74.dt0", 321, "1790000E", 22, 321}, {"north_74.dt0", 321, "1800000S", 21, 321},
-    {"south_80.dt0", 321, "0000000E", 0, 0}, {"south_80.dt0", 336, "0000000E", 0, 0}, {"south_80.dt0", 336, "0010000E", 22, 336},
-    {"south_80.dt0", 321, "0000000S", 21, 321},
+    {"corners_at_0.dt0", 284, "000000N", 0, 0}, {"corners_at_0.dt0", 291, "0000000E", 0, 0},
+    {"corners_at_0.dt0", 306, "0000000E", 0, 0}, {"corners_at_0.dt0", 329, "000000N", 0, 0},
+    {"corners_at_0.dt0", 284, "000000E", 21, 284}, {"corners_at_0.dt0", 284, "000001N", 21, 284},
+    {"corners_at_0.dt0", 284, "010000N", 22, 284}, {"corners_at_0.dt0", 291, "0000000N", 21, 291},
+    {"corners_at_0.dt0", 291, "0010000W", 22, 291}, {"corners_at_0.dt0", 306, "0000000 ", 21, 306},
+    {"corners_at_0.dt0", 306, "0010000E", 22, 306}, {"corners_at_0.dt0", 329, "010000S", 22, 329},
+    {"corners_at_0.dt0", 329, "00000?N", 21, 329}, {"north_75.dt0", 291, "1800000W", 0, 0},
+    {"north_75.dt0", 306, "1800000W", 0, 0}, {"north_75.dt0", 291, "1790000E", 22, 291},
+    {"north_75.dt0", 291, "1800000N", 21, 291}, {"north_75.dt0", 306, "1790000W", 22, 306},
+    {"north_75.dt0", 306, "1800001W", 21, 306}, {"north_74.dt0", 321, "1800000E", 0, 0}, {"north_74.dt0", 336, "1800000E", 0, 0},
+    {"north_74.dt0", 336, "1790000W", 22, 336}, {"north_74.dt0", 321, "1790000E", 22, 321},
+    {"north_74.dt0", 321, "1800000S", 21, 321}, {"south_80.dt0", 321, "0000000E", 0, 0}, {"south_80.dt0", 336, "0000000E", 0, 0},
+    {"south_80.dt0", 336, "0010000E", 22, 336}, {"south_80.dt0", 321, "0000000S", 21, 321},
     /* and the corners next to those one name */
-    {"corners_at_0.dt0", 299, "010000S", 22, 305}, {"corners_at_0.dt0", 299, "020000N", 22, 300}, {"corners_at_0.dt0", 314, "000000N", 22, 315},
-    {"corners_at_0.dt0", 321, "0010000W", 22, 328}, {"corners_at_0.dt0", 336, "0000000E", 22, 338}, {"north_75.dt0", 321, "1790000E", 22, 328},
-    {"north_75.dt0", 336, "1800000W", 22, 337}, {"north_74.dt0", 291, "1790000W", 22, 298}, {"north_74.dt0", 306, "1800000E", 22, 307},
-    {"south_80.dt0", 291, "0010000E", 22, 298}, {"south_80.dt0", 306, "0000000W", 22, 308},
+    {"corners_at_0.dt0", 299, "010000S", 22, 305}, {"corners_at_0.dt0", 299, "020000N", 22, 300},
+    {"corners_at_0.dt0", 314, "000000N", 22, 315}, {"corners_at_0.dt0", 321, "0010000W", 22, 328},
+    {"corners_at_0.dt0", 336, "0000000E", 22, 338}, {"north_75.dt0", 321, "1790000E", 22, 328},
+    {"north_75.dt0", 336, "1800000W", 22, 337}, {"north_74.dt0", 291, "1790000W", 22, 298},
+    {"north_74.dt0", 306, "1800000E", 22, 307}, {"south_80.dt0", 291, "0010000E", 22, 298},
+    {"south_80.dt0", 306, "0000000W", 22, 308},
     /* latitude 90 has one name */
     {"north_89.dt0", 299, "900000N", 0, 0}, {"north_89.dt0", 299, "900000S", 21, 305}, {"north_89.dt0", 314, "900000S", 21, 320},
-    {"north_89.dt0", 299, "890000N", 22, 299}, {"north_89.dt0", 284, "900000N", 21, 284}, {"north_89.dt0", 329, "900000N", 21, 329},
+    {"north_89.dt0", 299, "890000N", 22, 299}, {"north_89.dt0", 284, "900000N", 21, 284},
+    {"north_89.dt0", 329, "900000N", 21, 329},
 };
 
 static void field_text_case(const void *context) {

@@ -320,7 +320,7 @@ static void add_headers(const int64_t *items) {
     add_fields(headers);
 }
 
-/* No field is made of more than level and latitude together, or of one other item: so each other item takes its values by itself. */
+/* No field is made of more than level and latitude together, or of one other item: so each of those takes its values by itself. */
 static void add_all_headers(void) {
     static const int64_t plain[ITEMS] = {0, 1, 1, 'S', 1, 'A', 0, 0, 0, 0, 0, 0, 0};
     int64_t items[ITEMS];
@@ -348,8 +348,8 @@ const struct texts *second_possible(size_t f) {
 
 /* ---- a refused field ---- */
 
-/* How many texts would have passed in a field, given what the fields before it said, and which one if it is alone. Kept from the last
- * time, since case after case asks the same. */
+/* How many texts would have passed in a field, given what the fields before it said, and which one if it is alone. Kept from the
+ * last time, since case after case asks the same. */
 static struct due {
     struct reading before;
     size_t passing; /* 2: two or more */

@@ -61,7 +61,7 @@ def scope_fields():
 
 
 def fields(folder):
-    """Each header field broken by itself is named, at its first byte and at its last; texts of other cells by what they go against."""
+    """Each header field broken by itself is named, by its first byte or its last; so are texts that stand there in other cells."""
     good = stored("north_89.dt0")[0]
     same("fields of the scope", 40, len(list(scope_fields())))
     for first, last, name in scope_fields():
