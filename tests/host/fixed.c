@@ -235,6 +235,7 @@ static void words_and_heights_case(const void *context) {
 struct field_sweep {
     size_t field;
     int64_t level, latitude, longitude;
+    bool every_text; /* of a long list, too */
 };
 
 /* The headers that are lent, with this text in the field; afterwards they are as before. */
@@ -277,7 +278,7 @@ static const size_t possible_counts[CELL_FIELDS] = {
 static void possible_case(const void *context) {
     const struct field_sweep *sweep = context;
     const struct texts *texts = second_possible(sweep->field);
-    size_t step = sweep->level == 0 && sides > 1 ? 1 : 1 + texts->count / 400;
+    size_t step = sweep->every_text ? 1 : 1 + texts->count / 400;
     name_case("all that may stand in the header field at %zu", cell_fields[sweep->field].offset);
     expect("texts", texts->count, possible_counts[sweep->field]);
     make(sweep->level, sweep->latitude, sweep->longitude, 0, 0);
@@ -288,11 +289,12 @@ static void possible_case(const void *context) {
 }
 
 static void run_field_cases(void) {
-    static const int64_t origins[][3] = {{0, 0, 0}, {1, -1, -1}, {2, 49, -180}, {2, -90, 179}, {1, 89, 99}};
+    static const int64_t origins[][3] = {{0, 0, 0},  {0, -1, -1},  {0, 49, -180}, {0, -90, 179},
+                                         {0, 89, 99}, {1, -51, -1}, {2, 70, 179}};
     for (size_t o = 0; o < COUNT(origins); o++) {
         both_side(o % 2 == 0 ? AT_START : AT_END);
         for (size_t f = 0; f < CELL_FIELDS; f++) {
-            struct field_sweep sweep = {f, origins[o][0], origins[o][1], origins[o][2]};
+            struct field_sweep sweep = {f, origins[o][0], origins[o][1], origins[o][2], o == 0 && sides > 1};
             run_case(field_case, &sweep);
             run_case(possible_case, &sweep);
         }
