@@ -4,13 +4,14 @@ use native.Mathlib.Omega.{arith}
 use mathlib.Core.Path.{_≡_, refl, sym, _∙_}
 use mathlib.Core.Bool.{Bool, true, false}
 use mathlib.Core.List.{List, [], _∷_, map}
-use lib.Dec.{leb}
+use lib.Dec.{eqb, leb}
 use lib.ListN.{length, getD}
-use borrow.Author.Tests.{leb-true}
+use borrow.Author.Tests.{leb-true, eqb-true}
 use Rattle.octets.specs.Choice.{both, either}
-use Rattle.octets.specs.Tests.{every}
+use Rattle.octets.specs.Tests.{every, allBelow}
 use Rattle.octets.specs.Pastes.{pasted}
 use Rattle.octets.proofs.ChoiceLaws.{both-true, either-case}
+use Rattle.octets.proofs.TestLaws.{below, passes}
 use Rattle.octets.proofs.PasteLaws.{length-paste}
 use Rattle.fields.specs.Table.{uhl, fields, bytesIn, fieldAt}
 use Rattle.header_writer.specs.Written.{textFor, withFields}
@@ -41,6 +42,26 @@ Rows fs = (i : ℕ) → i < length fs → Row (getD fs i (uhl 1 1 (Item Partial)
 rows-after : (f : Field) (fs : List Field) → Rows (f ∷ fs) → Rows fs
 rows-after f fs rows i h = rows (suc i) (omega arith)
 
+-- bytes put over a whole field leave those that lie apart as they were
+pub text-apart : (s : List ℕ) (f g : Field) (v : List ℕ) → length v ≡ g .1 → g .0 + g .1 ≤ length s → apart f g ≡ true
+    → bytesIn (pasted s (g .0) v) f ≡ bytesIn s f
+text-apart s f g v w h e =
+    either-case (leb (f .0 + f .1) (g .0)) (leb (g .0 + g .1) (f .0)) e
+    (λ o. paste-before s (g .0) v (f .0) (f .1) (omega arith) (leb-true (f .0 + f .1) (g .0) o))
+    (λ o. paste-behind s (g .0) v (f .0) (f .1) (omega arith) (omega (arith, leb-true (g .0 + g .1) (f .0) o)))
+
+-- any two rows lie apart
+apart-test : ℕ → ℕ → Bool
+apart-test i j = either (eqb i j) (apart (fieldAt i) (fieldAt j))
+
+pub rows-apart : (i j : ℕ) → i < 40 → j < 40 → (i ≡ j → ⊥) → apart (fieldAt i) (fieldAt j) ≡ true
+unfolding apart-test
+rows-apart i j h k ne =
+    either-case (eqb i j) (apart (fieldAt i) (fieldAt j))
+    (passes (apart-test i j) (below (apart-test i) 40 (below (λ (n : ℕ). allBelow (apart-test n) 40) 40 tt i h) j k))
+    (λ e. absurd (ne (eqb-true i j e)))
+    (λ e. e)
+
 module _ (d : Description) where
   -- one text put over what stands there
   abbrev put : List ℕ → Field → List ℕ
@@ -57,12 +78,7 @@ module _ (d : Description) where
 
   -- a field that lies apart is left as it was
   put-apart : (s : List ℕ) (f g : Field) → Row g → 785 ≤ length s → apart f g ≡ true → bytesIn (put s g) f ≡ bytesIn s f
-  put-apart s f g r h e =
-      let t = textFor (g .2) d in
-      let w = as-wide g r in
-      either-case (leb (f .0 + f .1) (g .0)) (leb (g .0 + g .1) (f .0)) e
-      (λ o. paste-before s (g .0) t (f .0) (f .1) (omega (arith, r .within)) (leb-true (f .0 + f .1) (g .0) o))
-      (λ o. paste-behind s (g .0) t (f .0) (f .1) (omega (arith, w, r .within)) (omega (arith, w, leb-true (g .0 + g .1) (f .0) o)))
+  put-apart s f g r h e = text-apart s f g (textFor (g .2) d) (as-wide g r) (omega (arith, r .within)) e
 
   all-put-apart : (s : List ℕ) (f : Field) (fs : List Field) → 785 ≤ length s → Rows fs → every (map (apart f) fs) ≡ true
       → bytesIn (withFields s d fs) f ≡ bytesIn s f

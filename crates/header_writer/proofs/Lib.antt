@@ -7,3 +7,5 @@ pub mod BasisBack
 pub mod WrittenHolds
 pub mod RoundTrip
 pub mod WrittenGood
+pub mod SomeHeaders
+pub mod FieldTold

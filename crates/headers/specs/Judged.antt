@@ -51,6 +51,16 @@ judged s = pick (ltb (length s) headerBytes) (Refused (because.Short (length s))
 abbrev pub Follows : List ℕ → Type 0
 Follows s = (headerBytes ≤ length s) × ((i : ℕ) → i < length fields → keeps s (basisIn s) (fieldAt i) ≡ true)
 
+-- N21: headers that are accepted and have these bytes in a field. The bytes are impossible there where there are none
+pub record Stands (f : Field) (v : List ℕ) : Type 0 where
+  pub headers : List ℕ
+  pub facts : Facts
+  pub accepted : judged headers ≡ Good facts
+  pub there : bytesIn headers f ≡ v
+
+abbrev pub Impossible : Field → List ℕ → Type 0
+Impossible f v = Stands f v → ⊥
+
 -- V1: a cell may hold voids exactly where its headers call it partial
 abbrev pub voidsAllowed : Facts → Bool
 voidsAllowed facts = not (eqb (facts .partial) 0)
