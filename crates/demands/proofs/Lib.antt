@@ -12,6 +12,7 @@ pub mod HostAnswers
 pub mod HostWrites
 pub mod HostEdits
 pub mod HostTold
+pub mod HeaderFields
 pub mod CellsTaken
 pub mod RefusedLeaves
 pub mod PostsAnswered

@@ -29,7 +29,7 @@ pub record Reachable (s : List ℕ) (c p : ℕ) : Type 0 where
 
 -- the rows in the call's order, each where it holds and none before it does
 pub data EditRow (s : List ℕ) (c p : ℕ) (z : ℤ) : Outcome → Type 0 where
-  -- 1, 2, 8, 3, 4, 5 and 6: as the post is reached
+  -- 1, 21 to 23, 8, 3, 4, 5 and 6: as the post is reached
   reaching : (r : Refusal) → exactly.Row s c p (reach.Refused r) → EditRow s c p z (Refused r)
   -- 11
   height : Reachable s c p → heightAllowed (frameIn s .voids) z ≡ false → EditRow s c p z (Refused (Height 0))

@@ -2,5 +2,6 @@
 pub mod FaultTold
 pub mod SomeEdges
 pub mod SomeNumbers
+pub mod Listed
 pub mod Somewhere
 pub mod Passing

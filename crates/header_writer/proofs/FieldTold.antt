@@ -110,7 +110,11 @@ number-of f v place _ (against-table w counts) = record {
   then-23 = λ x c. refl;
 }
 
--- THE THEOREM. Headers that are there whole and are refused have a first field that breaks its rule; the place lies in that field, and the number
+-- N21 to N23, both ways
+pub number-told : (s : List ℕ) (i : ℕ) → First s i → NumberExactly (fieldAt i) (bytesIn s (fieldAt i)) (numberTold (numbered (broken s (basisIn s) (fieldAt i))))
+number-told s i f = number-of (fieldAt i) (bytesIn s (fieldAt i)) (place s i f) (broken s (basisIn s) (fieldAt i)) (field-meant s i f)
+
+-- Headers that are there whole and are refused have a first field that breaks its rule; the place lies in that field, and the number
 -- is 21, 22 or 23 exactly as the scope says.
 pub record HeadersTold (s : List ℕ) (r : Refusal) : Type 0 where
   pub row : ℕ
@@ -127,5 +131,5 @@ headers-told s r long e =
       row = i;
       first = f;
       place = place-told s i f;
-      number = number-of (fieldAt i) (bytesIn s (fieldAt i)) (place s i f) (broken s (basisIn s) (fieldAt i)) (field-meant s i f);
+      number = number-told s i f;
     })

@@ -28,7 +28,7 @@ judgedAt s k = under.judgedAt s (frameIn s) k
 
 -- the rows in the call's order, each where it holds and none before it does
 pub data IntakeRow (s : List ℕ) : Told → Type 0 where
-  -- 1 and 2
+  -- 1, 21 to 23
   bad-headers : (r : Refusal) → judged s ≡ headers.Refused r → IntakeRow s (numbered r)
   -- 3
   cut : Follows s → (k : ℕ) → k < frameIn s .grid .columns → GoodBefore s k → length s < endOf s k → IntakeRow s (refused 3 (startOf (frameIn s .grid) k))

@@ -1,4 +1,4 @@
--- Intake (rules I1 to I3): 1, 2, then column after column from the west 3, 4, 5, 6, then 7.
+-- Intake (rules I1 to I3): 1, 21 to 23, then column after column from the west 3, 4, 5, 6, then 7.
 use Prim.Native.Nat.{ℕ, _+_}
 use mathlib.Core.List.{List}
 use lib.ListN.{length}

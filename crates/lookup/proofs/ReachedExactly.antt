@@ -40,7 +40,7 @@ judgedIn s c = judgedColumn (columnAt s (frameIn s .grid) c) c (frameIn s .grid 
 
 -- the rows in the call's order, each where it holds and none before it does
 pub data Row (s : List ℕ) (c p : ℕ) : Reached → Type 0 where
-  -- 1 and 2
+  -- 1, 21 to 23
   bad-headers : (r : Refusal) → judged s ≡ headers.Refused r → Row s c p (Refused r)
   -- 8
   off : Follows s → (c < frameIn s .grid .columns → p < frameIn s .grid .posts → ⊥) → Row s c p (Refused OffGrid)

@@ -1,4 +1,4 @@
--- Reaching one post (rule L1): 1, 2, 8, then 3, 4, 5, 6 for its column alone. Lookup and edit both begin so.
+-- Reaching one post (rule L1): 1, 21 to 23, 8, then 3, 4, 5, 6 for its column alone. Lookup and edit both begin so.
 use Prim.Native.Nat.{ℕ, _+_}
 use mathlib.Core.List.{List}
 use lib.ListN.{length}
@@ -41,7 +41,7 @@ reachedIn s f c p =
     (Refused (Cut (startOf (f .grid) c))))
     (Refused OffGrid)
 
--- N1, N2: the headers first
+-- N1, N21 to N23: the headers first
 abbrev pub reachedUnder : List ℕ → JudgedHeaders → ℕ → ℕ → Reached
 reachedUnder s (headers.Good f) c p = reachedIn s (frameOf f) c p
 reachedUnder s (headers.Refused r) c p = Refused r

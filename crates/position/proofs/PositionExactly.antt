@@ -35,7 +35,7 @@ eastOf f longitude = inCell (f .longitude) (alongAxis (180 * degree) longitude)
 
 -- the rows in the call's order, each where it holds and none before it does; the last is post lookup's rows for the nearest post
 pub data Row (s : List ℕ) (latitude longitude : ℤ) : Told → Type 0 where
-  -- 1 and 2
+  -- 1, 21 to 23
   bad-headers : (r : Refusal) → judged s ≡ Refused r → Row s latitude longitude (numbered r)
   -- 8
   off : (f : Facts) → judged s ≡ Good f → southWest f latitude longitude ≡ within.Off → Row s latitude longitude (refused 8 0)

@@ -88,7 +88,7 @@ locatedBy s f (within.In k) =
     readAt (nearestColumn (f .grid) k) (nearestPost (f .grid) k) (reachedIn s f (nearestColumn (f .grid) k) (nearestPost (f .grid) k))
 locatedBy s f within.Off = refused 8 0
 
--- N1, N2: the headers first
+-- N1, N21 to N23: the headers first
 abbrev pub locatedUnder : List ℕ → JudgedHeaders → ℤ → ℤ → Told
 locatedUnder s (headers.Good f) latitude longitude = locatedBy s (frameOf f) (southWest f latitude longitude)
 locatedUnder s (headers.Refused r) latitude longitude = numbered r
