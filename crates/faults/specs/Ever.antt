@@ -1,5 +1,5 @@
--- What may stand in a field of one accepted header or another (rule N21): tests of its bytes alone. That they say just that is
--- proved over the headers that are accepted.
+-- What may stand in a field of one accepted header or another (rules H45 and N21): tests of its bytes alone. That they say just that
+-- is proved over the headers that are accepted.
 use Prim.Native.Nat.{ℕ, _+_}
 use mathlib.Core.Bool.{Bool}
 use mathlib.Core.List.{List}
