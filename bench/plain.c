@@ -7,6 +7,13 @@
 
 enum { LOWEST = -12000, HIGHEST = 9000, NO_ANGLE = 1000, GOOD = DTED_HEADER_BYTES, SUM_BLOCK = 256 };
 
+/* not `cold` too: clang then leaves calls in the judges, which makes them slower */
+#ifdef __GNUC__
+#define OUT_OF_LINE __attribute__((noinline))
+#else
+#define OUT_OF_LINE
+#endif
+
 /* What level and origin fix, and whether voids are allowed. */
 struct facts {
     unsigned level, columns, posts;
@@ -65,6 +72,88 @@ static void lay(struct facts *f, unsigned level, int latitude) {
     f->columns = (unsigned)(DTED_DEGREE / f->east + 1);
     f->posts = (unsigned)(DTED_DEGREE / f->north + 1);
     f->column_bytes = 12 + 2 * (size_t)f->posts;
+}
+
+/* ---- headers, written ---- */
+
+static void put_text(uint8_t *field, const char *text) { memcpy(field, text, strlen(text)); }
+
+static void put_number(uint8_t *field, int digits, unsigned value) {
+    for (; digits > 0; value /= 10)
+        field[--digits] = (uint8_t)('0' + value % 10);
+}
+
+static void put_angle(uint8_t *field, int digits, const char *zeros, int angle, const char *letters) {
+    put_number(field, digits, (unsigned)(angle < 0 ? -angle : angle));
+    put_text(field + digits, zeros);
+    field[digits + (int)strlen(zeros)] = (uint8_t)letters[angle < 0];
+}
+
+static void put_corner(uint8_t *field, int latitude, int longitude) {
+    put_angle(field, 2, "0000", latitude, "NS");
+    put_angle(field + 7, 3, "0000", longitude, "EW");
+}
+
+static void put_accuracy(uint8_t *field, int64_t metres) {
+    if (metres == DTED_NOT_AVAILABLE)
+        put_text(field, "NA  ");
+    else
+        put_number(field, 4, (unsigned)metres);
+}
+
+static void put_uhl(uint8_t *h, const int64_t *items, const struct facts *f) {
+    put_text(h, "UHL1");
+    put_angle(h + 4, 3, "0000", f->longitude, "EW");
+    put_angle(h + 12, 3, "0000", f->latitude, "NS");
+    put_number(h + 20, 4, (unsigned)f->east);
+    put_number(h + 24, 4, (unsigned)f->north);
+    put_accuracy(h + 28, items[DTED_ACCURACY]);
+    h[32] = (uint8_t)items[DTED_SECURITY];
+    put_number(h + 47, 4, f->columns);
+    put_number(h + 51, 4, f->posts);
+    h[55] = '0';
+}
+
+static void put_series(uint8_t *h, const int64_t *items, const struct facts *f) {
+    put_text(h + 80, "DSI");
+    h[83] = (uint8_t)items[DTED_SECURITY];
+    put_text(h + 139, "DTED");
+    put_number(h + 143, 1, f->level);
+    memset(h + 144, '0', 15);
+    put_number(h + 167, 2, (unsigned)items[DTED_EDITION]);
+    h[169] = (uint8_t)items[DTED_MATCH_VERSION];
+    memset(h + 170, '0', 12);
+    put_text(h + 206, "PRF89020B");
+    put_text(h + 215, "000005");
+    put_text(h + 221, items[DTED_DATUM] == DTED_MSL ? "MSL" : "E96");
+    put_text(h + 224, "WGS84");
+    memset(h + 239, '0', 4);
+}
+
+static void put_dsi(uint8_t *h, const int64_t *items, const struct facts *f) {
+    put_series(h, items, f);
+    put_angle(h + 265, 2, "0000.0", f->latitude, "NS");
+    put_angle(h + 274, 3, "0000.0", f->longitude, "EW");
+    put_corner(h + 284, f->latitude, f->longitude);
+    put_corner(h + 299, f->latitude + 1, f->longitude);
+    put_corner(h + 314, f->latitude + 1, f->longitude + 1);
+    put_corner(h + 329, f->latitude, f->longitude + 1);
+    put_text(h + 344, "0000000.0");
+    put_number(h + 353, 4, (unsigned)f->north);
+    put_number(h + 357, 4, (unsigned)f->east);
+    put_number(h + 361, 4, f->posts);
+    put_number(h + 365, 4, f->columns);
+    put_number(h + 369, 2, (unsigned)items[DTED_PARTIAL]);
+}
+
+static void put_headers(uint8_t *h, const int64_t *items, const struct facts *f) {
+    memset(h, ' ', DTED_HEADER_BYTES);
+    put_uhl(h, items, f);
+    put_dsi(h, items, f);
+    put_text(h + 728, "ACC");
+    for (int i = 0; i < 4; i++)
+        put_accuracy(h + 731 + 4 * i, items[DTED_ABSOLUTE_HORIZONTAL + i]);
+    put_text(h + 783, "00");
 }
 
 /* ---- header fields, judged ---- */
@@ -203,6 +292,128 @@ static unsigned judge_acc(const uint8_t *h) {
     return has(h + 783, "00") ? GOOD : 783;
 }
 
+/* ---- a broken header field, told ---- */
+
+/* The angles of the DSI that some header has: with the first letter from 0 to `first`, with the second from `least` to `second`. */
+static const struct angle {
+    unsigned at;
+    int digits;
+    const char *zeros, *letters;
+    int first, least, second;
+} angles[] = {
+    {265, 2, "0000.0", "NS", 89, 1, 90},
+    {274, 3, "0000.0", "EW", 179, 1, 180},
+    {284, 2, "0000", "NS", 89, 0, 90},
+    {291, 3, "0000", "EW", 180, 0, 180},
+    {299, 2, "0000", "NS", 90, 0, 89},
+    {306, 3, "0000", "EW", 180, 0, 180},
+    {314, 2, "0000", "NS", 90, 0, 89},
+    {321, 3, "0000", "EW", 180, 0, 180},
+    {329, 2, "0000", "NS", 89, 0, 90},
+    {336, 3, "0000", "EW", 180, 0, 180},
+};
+enum { ANGLES = sizeof angles / sizeof *angles };
+
+/* The angle field at this offset, or null. */
+static const struct angle *angle_at(unsigned at) {
+    for (size_t i = 0; i < ANGLES; i++)
+        if (angles[i].at == at)
+            return &angles[i];
+    return NULL;
+}
+
+static bool some_header_says(const uint8_t *field, const struct angle *a) {
+    const uint8_t *rest = field + a->digits;
+    size_t zeros = strlen(a->zeros);
+    int degrees = decimal(field, a->digits);
+    if (degrees < 0 || memcmp(rest, a->zeros, zeros) != 0)
+        return false;
+    return (rest[zeros] == a->letters[0] && degrees <= a->first) ||
+           (rest[zeros] == a->letters[1] && degrees >= a->least && degrees <= a->second);
+}
+
+/* What an interval or a count must be by the level and zone table; 0 in any other field. */
+static int table_value(unsigned at, const struct facts *f) {
+    switch (at) {
+    case 20: case 357: return f->east;
+    case 353: return f->north;
+    case 47: case 365: return (int)f->columns;
+    case 51: case 361: return (int)f->posts;
+    default: return 0;
+    }
+}
+
+/* Whether the table has this value anywhere in its column. */
+static bool in_table(unsigned at, int value) {
+    static const int zones[] = {0, 50, 70, 75, 80};
+    struct facts f;
+    for (unsigned level = 0; level <= 2; level++)
+        for (size_t i = 0; i < sizeof zones / sizeof *zones; i++) {
+            lay(&f, level, zones[i]);
+            if (value > 0 && value == table_value(at, &f))
+                return true;
+        }
+    return false;
+}
+
+/* Whether the bytes of this field, which is neither interval nor count, may stand there beside other fields. */
+static bool fits_elsewhere(const uint8_t *h, unsigned at) {
+    const struct angle *angle = angle_at(at);
+    if (angle)
+        return some_header_says(h + at, angle);
+    if (at == 83)
+        return is_security(h[83]);
+    return at == 139 && has(h + 139, "DTED") && h[143] >= '0' && h[143] <= '2';
+}
+
+static unsigned field_number(const uint8_t *h, unsigned at) {
+    if (in_table(at, decimal(h + at, 4)))
+        return DTED_FIELD_OFF_TABLE;
+    return fits_elsewhere(h, at) ? DTED_FIELD_CONTRADICTS : DTED_FIELD_IMPOSSIBLE;
+}
+
+/* Whether several texts are good there in any header. */
+static bool has_several_texts(unsigned at) {
+    switch (at) {
+    case 4: case 12: case 24: case 28: case 32: case 167: case 169: case 221: case 369:
+    case 731: case 735: case 739: case 743:
+        return true;
+    default:
+        return false;
+    }
+}
+
+/* A corner part at 0 and at 180 degrees has either letter, so two texts are good there. */
+static bool has_either_letter(const uint8_t *due, unsigned at) {
+    const struct angle *angle = angle_at(at);
+    if (!angle || angle->least > 0)
+        return false;
+    int degrees = decimal(due + at, angle->digits);
+    return degrees == 0 || degrees == 180;
+}
+
+/* The offset of the field's first wrong byte, or of the field where several texts are good: what is due is what the writer writes. */
+static unsigned field_place(const uint8_t *h, unsigned at, const struct facts *f) {
+    static const struct facts none; /* in the first field nothing is known */
+    int64_t items[DTED_ITEMS] = {[DTED_SECURITY] = h[32]};
+    uint8_t due[DTED_HEADER_BYTES];
+    if (has_several_texts(at))
+        return at;
+    put_headers(due, items, at == 0 ? &none : f);
+    if (has_either_letter(due, at))
+        return at;
+    while (h[at] == due[at])
+        at++;
+    return at;
+}
+
+/* Apart from the judges, so that a good header does not pay for it. */
+OUT_OF_LINE static dted_answer refuse_field(const uint8_t *h, unsigned at, const struct facts *f) {
+    return refuse(field_number(h, at), field_place(h, at, f));
+}
+
+/* ---- headers, judged ---- */
+
 static dted_answer judge_headers(const uint8_t *h, size_t length, struct facts *f) {
     if (length < DTED_HEADER_BYTES)
         return refuse(DTED_SHORT, length);
@@ -215,7 +426,7 @@ static dted_answer judge_headers(const uint8_t *h, size_t length, struct facts *
         bad = judge_counts(h, f);
     if (bad == GOOD)
         bad = judge_acc(h);
-    return bad == GOOD ? done() : refuse(DTED_FIELD, bad);
+    return bad == GOOD ? done() : refuse_field(h, bad, f);
 }
 
 /* ---- columns, judged ---- */
@@ -329,88 +540,6 @@ dted_answer plain_edit(uint8_t *cell, size_t length, uint64_t column, uint64_t p
     put16(word, word_of((int)height));
     put32(check, rest + word[0] + word[1]);
     return done();
-}
-
-/* ---- headers, written ---- */
-
-static void put_text(uint8_t *field, const char *text) { memcpy(field, text, strlen(text)); }
-
-static void put_number(uint8_t *field, int digits, unsigned value) {
-    for (; digits > 0; value /= 10)
-        field[--digits] = (uint8_t)('0' + value % 10);
-}
-
-static void put_angle(uint8_t *field, int digits, const char *zeros, int angle, const char *letters) {
-    put_number(field, digits, (unsigned)(angle < 0 ? -angle : angle));
-    put_text(field + digits, zeros);
-    field[digits + (int)strlen(zeros)] = (uint8_t)letters[angle < 0];
-}
-
-static void put_corner(uint8_t *field, int latitude, int longitude) {
-    put_angle(field, 2, "0000", latitude, "NS");
-    put_angle(field + 7, 3, "0000", longitude, "EW");
-}
-
-static void put_accuracy(uint8_t *field, int64_t metres) {
-    if (metres == DTED_NOT_AVAILABLE)
-        put_text(field, "NA  ");
-    else
-        put_number(field, 4, (unsigned)metres);
-}
-
-static void put_uhl(uint8_t *h, const int64_t *items, const struct facts *f) {
-    put_text(h, "UHL1");
-    put_angle(h + 4, 3, "0000", f->longitude, "EW");
-    put_angle(h + 12, 3, "0000", f->latitude, "NS");
-    put_number(h + 20, 4, (unsigned)f->east);
-    put_number(h + 24, 4, (unsigned)f->north);
-    put_accuracy(h + 28, items[DTED_ACCURACY]);
-    h[32] = (uint8_t)items[DTED_SECURITY];
-    put_number(h + 47, 4, f->columns);
-    put_number(h + 51, 4, f->posts);
-    h[55] = '0';
-}
-
-static void put_series(uint8_t *h, const int64_t *items, const struct facts *f) {
-    put_text(h + 80, "DSI");
-    h[83] = (uint8_t)items[DTED_SECURITY];
-    put_text(h + 139, "DTED");
-    put_number(h + 143, 1, f->level);
-    memset(h + 144, '0', 15);
-    put_number(h + 167, 2, (unsigned)items[DTED_EDITION]);
-    h[169] = (uint8_t)items[DTED_MATCH_VERSION];
-    memset(h + 170, '0', 12);
-    put_text(h + 206, "PRF89020B");
-    put_text(h + 215, "000005");
-    put_text(h + 221, items[DTED_DATUM] == DTED_MSL ? "MSL" : "E96");
-    put_text(h + 224, "WGS84");
-    memset(h + 239, '0', 4);
-}
-
-static void put_dsi(uint8_t *h, const int64_t *items, const struct facts *f) {
-    put_series(h, items, f);
-    put_angle(h + 265, 2, "0000.0", f->latitude, "NS");
-    put_angle(h + 274, 3, "0000.0", f->longitude, "EW");
-    put_corner(h + 284, f->latitude, f->longitude);
-    put_corner(h + 299, f->latitude + 1, f->longitude);
-    put_corner(h + 314, f->latitude + 1, f->longitude + 1);
-    put_corner(h + 329, f->latitude, f->longitude + 1);
-    put_text(h + 344, "0000000.0");
-    put_number(h + 353, 4, (unsigned)f->north);
-    put_number(h + 357, 4, (unsigned)f->east);
-    put_number(h + 361, 4, f->posts);
-    put_number(h + 365, 4, f->columns);
-    put_number(h + 369, 2, (unsigned)items[DTED_PARTIAL]);
-}
-
-static void put_headers(uint8_t *h, const int64_t *items, const struct facts *f) {
-    memset(h, ' ', DTED_HEADER_BYTES);
-    put_uhl(h, items, f);
-    put_dsi(h, items, f);
-    put_text(h + 728, "ACC");
-    for (int i = 0; i < 4; i++)
-        put_accuracy(h + 731 + 4 * i, items[DTED_ABSOLUTE_HORIZONTAL + i]);
-    put_text(h + 783, "00");
 }
 
 /* ---- the writer ---- */

@@ -2,11 +2,12 @@
 #include "same.h"
 
 #include <inttypes.h>
+#include <stdbool.h>
 #include <stdio.h>
 #include <stdlib.h>
 #include <string.h>
 
-enum { SMALL_ROOM = 34162, SMALL_GRID = 2 * 121 * 121, TRIES = 20000 };
+enum { SMALL_ROOM = 34162, SMALL_GRID = 2 * 121 * 121, TRIES = 20000, LEVELS = 3, KEPT = 5 * 20 * LEVELS };
 
 static const struct calls *one, *two;
 static size_t compared;
@@ -82,10 +83,9 @@ static void same_write(size_t room, size_t bytes) {
     same_bytes(first, second, sizeof first, "written bytes");
 }
 
-/* Makes a good small cell, by both. */
-static void make_small(int latitude) {
-    some_items(latitude);
-    dted_answer laid = dted_grid(0, latitude);
+/* Makes a good small cell of the items, by both. */
+static void write_small(void) {
+    dted_answer laid = dted_grid(0, items[DTED_LATITUDE]);
     columns = dted_columns(laid);
     column_bytes = dted_column_length(laid);
     length = dted_cell_length(laid);
@@ -95,6 +95,11 @@ static void make_small(int latitude) {
     same_intake(first, length);
     if (dted_number(one->intake(first, length)) != DTED_OK)
         differ("a written cell is refused");
+}
+
+static void make_small(int latitude) {
+    some_items(latitude);
+    write_small();
 }
 
 /* Writes that mostly are refused: an item, the grid's length, a height, the room. */
@@ -122,6 +127,140 @@ static void compare_items(void) {
             items[i] = values[k];
             same_write(sizeof first, 2 * columns * 121);
         }
+}
+
+/* ---- headers of every level, spoiled ---- */
+
+/* How many texts are good in a field, given the fields before it. */
+enum good { ONE, SEVERAL, ONE_OR_TWO };
+
+/* The forty fields; `other` is the refusal beside 21 that each can give, or 0. */
+static const struct field {
+    size_t at, bytes;
+    enum good good;
+    unsigned other;
+} fields[] = {
+    {0, 4, ONE, 0}, {4, 8, SEVERAL, 0}, {12, 8, SEVERAL, 0}, {20, 4, ONE, 23}, {24, 4, SEVERAL, 0},
+    {28, 4, SEVERAL, 0}, {32, 3, SEVERAL, 0}, {47, 4, ONE, 23}, {51, 4, ONE, 23}, {55, 1, ONE, 0},
+    {80, 3, ONE, 0}, {83, 1, ONE, 22}, {139, 5, ONE, 22}, {167, 2, SEVERAL, 0}, {169, 1, SEVERAL, 0},
+    {206, 9, ONE, 0}, {221, 3, SEVERAL, 0}, {224, 5, ONE, 0}, {265, 9, ONE, 22}, {274, 10, ONE, 22},
+    {284, 7, ONE_OR_TWO, 22}, {291, 8, ONE_OR_TWO, 22}, {299, 7, ONE_OR_TWO, 22}, {306, 8, ONE_OR_TWO, 22},
+    {314, 7, ONE_OR_TWO, 22}, {321, 8, ONE_OR_TWO, 22}, {329, 7, ONE_OR_TWO, 22}, {336, 8, ONE_OR_TWO, 22},
+    {344, 9, ONE, 0}, {353, 4, ONE, 23}, {357, 4, ONE, 23}, {361, 4, ONE, 23}, {365, 4, ONE, 23}, {369, 2, SEVERAL, 0},
+    {728, 3, ONE, 0}, {731, 4, SEVERAL, 0}, {735, 4, SEVERAL, 0}, {739, 4, SEVERAL, 0}, {743, 4, SEVERAL, 0}, {783, 2, ONE, 0},
+};
+enum { FIELDS = sizeof fields / sizeof *fields };
+
+/* Good headers; what was answered to spoiled ones, by level and place; and whether a wrong byte further on gave a field's first. */
+static uint8_t kept[KEPT][DTED_HEADER_BYTES];
+static bool answered[LEVELS][DTED_HEADER_BYTES][24], gave_first[LEVELS][FIELDS];
+
+static void put_four(uint8_t *field, size_t value) {
+    for (int i = 3; i >= 0; i--, value /= 10)
+        field[i] = (uint8_t)('0' + value % 10);
+}
+
+/* Makes headers of level 0 those of another level; a cell of each would take too long to write. */
+static void raise_level(uint8_t *h, unsigned level, int latitude) {
+    dted_answer laid = dted_grid(level, latitude);
+    size_t across = dted_columns(laid), up = dted_posts(laid);
+    h[143] = (uint8_t)('0' + level);
+    put_four(h + 20, DTED_DEGREE / (across - 1));
+    put_four(h + 24, DTED_DEGREE / (up - 1));
+    put_four(h + 47, across);
+    put_four(h + 51, up);
+    put_four(h + 353, DTED_DEGREE / (up - 1));
+    put_four(h + 357, DTED_DEGREE / (across - 1));
+    put_four(h + 361, up);
+    put_four(h + 365, across);
+}
+
+/* At the edges of zones and hemispheres, with a corner at 0 and at 180 degrees or with none, and at each level. */
+static void keep_headers(void) {
+    static const int latitudes[] = {-90, -89, -81, -80, -51, -50, -1, 0, 1, 49, 50, 69, 70, 74, 75, 79, 80, 88, 89, 12};
+    static const int longitudes[] = {-180, -1, 0, 179};
+    for (unsigned i = 0; i < KEPT; i++) {
+        some_items(latitudes[i / LEVELS % 20]);
+        if (i / LEVELS / 20 < 4)
+            items[DTED_LONGITUDE] = longitudes[i / LEVELS / 20];
+        write_small();
+        raise_level(first, i % LEVELS, (int)items[DTED_LATITUDE]);
+        memcpy(kept[i], first, DTED_HEADER_BYTES);
+        same_intake(kept[i], DTED_HEADER_BYTES);
+        if (dted_number(one->intake(kept[i], DTED_HEADER_BYTES)) != DTED_CUT)
+            differ("good headers are refused");
+    }
+}
+
+/* The next byte or the one before, which finds the ends of ranges; or mostly one that some field may have. */
+static uint8_t other_byte(uint8_t was) {
+    static const char often[] = "00112233456789NSEWUCRSAZ ./:";
+    if (below(3) == 0)
+        return (uint8_t)(below(2) ? was + 1 : was - 1);
+    return below(8) ? (uint8_t)often[below(sizeof often - 1)] : (uint8_t)below(256);
+}
+
+/* The text of this field in another header; of a corner part at times that of another corner, which may be past its own range. */
+static const uint8_t *some_text(const struct field *field) {
+    const uint8_t *from = kept[below(KEPT)];
+    if (field->good != ONE_OR_TWO || below(2))
+        return from + field->at;
+    return from + (field->bytes == 7 ? 284 : 291) + 15 * below(4);
+}
+
+/* Changes one byte, and gives its offset in the field; or several, and gives 0. */
+static size_t spoil(uint8_t *h, const struct field *field) {
+    size_t at = below(field->bytes);
+    if (below(2)) {
+        h[field->at + at] = other_byte(h[field->at + at]);
+        return at;
+    }
+    memcpy(h + field->at, some_text(field), below(4) ? field->bytes : at + 1);
+    return 0;
+}
+
+static void compare_spoiled(unsigned from, size_t f) {
+    const struct field *field = &fields[f];
+    uint8_t h[DTED_HEADER_BYTES];
+    memcpy(h, kept[from], sizeof h);
+    size_t at = spoil(h, field);
+    same_intake(h, sizeof h);
+    same_post(h, sizeof h, 0, 0);
+    dted_answer answer = one->intake(h, sizeof h);
+    unsigned number = dted_number(answer);
+    if (number < 21 || number > 23)
+        return;
+    answered[from % LEVELS][dted_place(answer)][number] = true;
+    if (at > 0 && dted_place(answer) == field->at)
+        gave_first[from % LEVELS][f] = true;
+}
+
+/* Without these answers the comparison of headers would show less than it says. */
+static void check_answered(unsigned level, size_t f) {
+    const struct field *field = &fields[f];
+    bool impossible = false, other = field->other == 0;
+    for (size_t at = field->at; at < field->at + field->bytes; at++) {
+        bool *numbers = answered[level][at];
+        impossible |= numbers[21];
+        other |= numbers[field->other];
+        if (field->good != SEVERAL && !numbers[21] && !numbers[22] && !numbers[23])
+            differ("a byte of a header field was no refusal's place");
+    }
+    if (!impossible || !other)
+        differ("a header field did not give each refusal that it can");
+    if (field->bytes > 1 && field->good != ONE && !gave_first[level][f])
+        differ("a field with several good texts was not refused at its first byte");
+}
+
+static void compare_fields(void) {
+    memset(answered, 0, sizeof answered);
+    memset(gave_first, 0, sizeof gave_first);
+    keep_headers();
+    for (unsigned i = 0; i < TRIES * 5; i++)
+        compare_spoiled((unsigned)below(KEPT), i % FIELDS);
+    for (unsigned level = 0; level < LEVELS; level++)
+        for (size_t f = 0; f < FIELDS; f++)
+            check_answered(level, f);
 }
 
 /* ---- damage ---- */
@@ -214,6 +353,7 @@ size_t compare(const struct calls *a, const struct calls *b, const uint8_t *larg
     seed = 20261115;
     compare_items();
     compare_refused_writes();
+    compare_fields();
     for (int latitude = -90; latitude <= 89; latitude++) {
         make_small(latitude);
         if (latitude % 20 == 0)

@@ -4,8 +4,9 @@
 
 #include "calls.h"
 
-/* Compares them on many small cells, good, damaged, cut and edited, and on this large one; gives the number of comparisons.
- * The program ends with a message where they differ. `spare` has room for the large cell. */
+/* Compares them on many small cells, good, damaged, cut and edited, on spoiled headers of every level, and on this large cell;
+ * gives the number of comparisons. The program ends with a message where they differ, or where the spoiled headers did not bring out
+ * each refusal that each field can give. `spare` has room for the large cell. */
 size_t compare(const struct calls *a, const struct calls *b, const uint8_t *large, uint8_t *spare, size_t length);
 
 #endif
