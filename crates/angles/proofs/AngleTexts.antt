@@ -15,7 +15,7 @@ use Rattle.octets.proofs.ChoiceLaws.{both-true, by-test, clash}
 use Rattle.octets.proofs.DigitLaws.{length-digits, decimal-back, digits-are}
 use Rattle.octets.proofs.TextLaws.{part-has, has-append, ends-either}
 use Rattle.octets.proofs.DigitTexts.{has-digits}
-use Rattle.angles.specs.Angles.{Form, degreesIn, letterIn, isAngle, isOrigin, angleOf, degreesOf, letterOf, isSame, isCorner, eitherLetter, mayCarry, angleText}
+use Rattle.angles.specs.Angles.{Form, degreesIn, letterIn, isAngle, isOrigin, angleOf, degreesOf, letterOf, isSame, isCorner, mayCarry, angleText}
 use Rattle.angles.specs.declared.Axis.{Axis}
 use Rattle.octets.proofs.PartLaws.{decimal-part, digits-part}
 

@@ -1,6 +1,6 @@
 -- N21 to N23 over the exported calls' own promises: where a field of the headers is the first that breaks its rule, each call that judges
 -- headers tells the same of it: the place lies in that field, and the number is 21, 22 or 23 exactly as the scope says.
-use mathlib.Core.Path.{_≡_, sym, ap, _∙_}
+use mathlib.Core.Path.{_≡_, ap, _∙_}
 use mathlib.Core.List.{List}
 use Prim.Native.Nat.{ℕ}
 use contract.Lifetimes as L
@@ -10,8 +10,7 @@ use Rattle.answers.specs.Told.{Told, numbered, numberTold, placeTold, told, pos
 use Rattle.host_answers.specs.Apart.{toldIn}
 use Rattle.fields.specs.Table.{bytesIn, fieldAt}
 use Rattle.headers.specs.Basis.{basisIn}
-use Rattle.headers.specs.Judged.{broken, judged}
-use Rattle.headers.specs.declared.JudgedHeaders.the-variants as headers
+use Rattle.headers.specs.Judged.{broken}
 use Rattle.headers.proofs.Exactly.{First, first-refused}
 use Rattle.headers.proofs.BrokenPlace.{PlaceIn, place-told}
 use Rattle.header_writer.proofs.FieldTold.{NumberExactly, number-told}

@@ -1,5 +1,5 @@
 -- What is due in a field, as bytes, once level, origin and security letter are known (rules H1 to H40, W3).
-use Prim.Native.Nat.{ℕ, suc, _+_}
+use Prim.Native.Nat.{ℕ, _+_}
 use mathlib.Core.Bool.{Bool, true, false}
 use mathlib.Core.List.{List, [], _∷_, _++_}
 use lib.ListN.{length}

@@ -1,12 +1,12 @@
 -- H45 in plain figures: the numbers that the level and zone table has, each kind listed by hand.
 use Prim.Native.Nat.{ℕ, _<_}
-use mathlib.Core.Path.{_≡_, refl, sym, ap, _∙_}
+use mathlib.Core.Path.{_≡_, sym, ap, _∙_}
 use mathlib.Core.Bool.{Bool, true}
 use mathlib.Core.List.{List, [], _∷_}
 use lib.Dec.{T, eqb, lit<}
 use lib.ListN.{length, getD}
 use borrow.Author.Tests.{eqb-true}
-use Rattle.octets.specs.Choice.{both, either}
+use Rattle.octets.specs.Choice.{either}
 use Rattle.octets.specs.Tests.{allBelow, someBelow}
 use Rattle.octets.proofs.ChoiceLaws.{same-test, either-case}
 use Rattle.octets.proofs.TestLaws.{some-at, below, passes}

@@ -1,18 +1,18 @@
 -- Which strings keep a field's rule, given what is due: several or one, as the place of a broken field has it.
-use Prim.Native.Nat.{ℕ, suc, _+_, _-_, _^_, _<_, _≤_}
+use Prim.Native.Nat.{ℕ, suc, _+_, _-_, _^_, _<_}
 use native.Mathlib.Omega.{arith}
 use mathlib.Core.Path.{_≡_, refl, sym, ap, _∙_}
 use mathlib.Core.Bool.{Bool, true, false, true≢false}
-use mathlib.Core.List.{List}
-use lib.Dec.{eqb, lit<, lit≤}
+use mathlib.Core.List.{List, [], _∷_}
+use lib.Dec.{eqb}
 use lib.ListN.{length, getD, take}
 use lib.Seq.{take-all}
-use borrow.Author.Tests.{eq-eqb, ne-eqb, eqb-true, eqb-false}
+use borrow.Author.Tests.{eq-eqb, eqb-true, eqb-false}
 use Rattle.octets.specs.Choice.{both, either}
 use Rattle.octets.specs.Digits.{digitsAt}
 use Rattle.octets.specs.Places.{value, places}
-use Rattle.octets.specs.Texts.{ascii, differ, has}
-use Rattle.octets.proofs.ChoiceLaws.{both-true, both-is, either-second, either-case, by-test, clash}
+use Rattle.octets.specs.Texts.{ascii, differ}
+use Rattle.octets.proofs.ChoiceLaws.{both-is, either-second, by-test, clash}
 use Rattle.octets.proofs.TextLaws.{differ-bound, has-part, differ-front, differ-there}
 use Rattle.angles.specs.Angles.{Form, form, northward, eastward, isAngle, degreesIn, letterIn, degreesOf, letterOf, eitherLetter, isSide, isCorner}
 use Rattle.angles.specs.declared.Axis.{Axis}
@@ -21,7 +21,6 @@ use Rattle.fields.specs.declared.Angle.{Angle}
 use Rattle.fields.specs.declared.Angle.the-variants as angle
 use Rattle.fields.specs.declared.Item.{Item}
 use Rattle.fields.specs.declared.Item.the-variants as item
-use Rattle.fields.specs.declared.Text.the-variants as text
 use Rattle.fields.specs.declared.Due.{Due}
 use Rattle.fields.specs.declared.Due.the-variants as due
 use Rattle.fields.specs.declared.Kind.{Kind}
@@ -170,33 +169,11 @@ module _ (d : Due) (b : Basis) (r : BasisInRange b) (free : letterFree d b ≡ f
       let short : at ≡ length t → ⊥ = eqb-false at (length t) (sym holds-by ∙ e) in
       omega (arith, differ-bound t 0 (dueText d b))
 
-width-some : (k : Kind) → 1 ≤ widthOf k
-width-some (kind.Item item.Level) = lit≤ tt
-width-some (kind.Item item.Latitude) = lit≤ tt
-width-some (kind.Item item.Longitude) = lit≤ tt
-width-some (kind.Item item.Security) = lit≤ tt
-width-some (kind.Item item.Edition) = lit≤ tt
-width-some (kind.Item item.Version) = lit≤ tt
-width-some (kind.Item item.Datum) = lit≤ tt
-width-some (kind.Item (item.Accuracy whose)) = lit≤ tt
-width-some (kind.Item item.Partial) = lit≤ tt
-width-some (kind.Due (due.Text text.Uhl1)) = lit≤ tt
-width-some (kind.Due (due.Text text.Zero)) = lit≤ tt
-width-some (kind.Due (due.Text text.Dsi)) = lit≤ tt
-width-some (kind.Due (due.Text text.Prf89020b)) = lit≤ tt
-width-some (kind.Due (due.Text text.Wgs84)) = lit≤ tt
-width-some (kind.Due (due.Text text.Orientation)) = lit≤ tt
-width-some (kind.Due (due.Text text.Acc)) = lit≤ tt
-width-some (kind.Due (due.Text text.ZeroZero)) = lit≤ tt
-width-some (kind.Due (due.Number n)) = lit≤ tt
-width-some (kind.Due (due.Angle angle.OriginLatitude)) = lit≤ tt
-width-some (kind.Due (due.Angle angle.OriginLongitude)) = lit≤ tt
-width-some (kind.Due (due.Angle angle.South)) = lit≤ tt
-width-some (kind.Due (due.Angle angle.North)) = lit≤ tt
-width-some (kind.Due (due.Angle angle.West)) = lit≤ tt
-width-some (kind.Due (due.Angle angle.East)) = lit≤ tt
-width-some (kind.Due due.Letter) = lit≤ tt
-width-some (kind.Due due.Series) = lit≤ tt
+-- two strings of one length that are not the same have a byte
+some-byte : (u v : List ℕ) → length u ≡ length v → (u ≡ v → ⊥) → 0 < length u
+some-byte [] [] e ne = absurd (ne refl)
+some-byte [] (y ∷ v) e ne = absurd (omega arith)
+some-byte (x ∷ u) v e ne = omega arith
 
 -- H44 in the scope's words: the byte that is named lies in the field; where one string alone passes, the bytes before it are that string's,
 -- and it is not; where two pass, it is the field's first
@@ -208,7 +185,7 @@ pub record Placed (k : Kind) (b : Basis) (t : List ℕ) (at : ℕ) : Type 0 wher
 -- where there are two strings, none passes alone
 first-named : (k : Kind) (b : Basis) (t : List ℕ) → length t ≡ widthOf k → TwoPass k b → Placed k b t 0
 first-named k b t wide w = record {
-  inside = omega (arith, width-some k);
+  inside = omega (arith, w .one-passes .0, some-byte (w .one) (w .two) (w .one-passes .0 ∙ sym (w .two-passes .0)) (w .apart));
   one = λ u p only. absurd (w .apart (only (w .one) (w .one-passes) ∙ sym (only (w .two) (w .two-passes))));
   two = λ u v p q ne. refl;
 }

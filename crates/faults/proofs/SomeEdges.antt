@@ -4,8 +4,8 @@ use native.Mathlib.Omega.{arith}
 use mathlib.Core.Path.{_≡_, refl, sym, ap, _∙_}
 use mathlib.Core.Bool.{Bool, true, false}
 use lib.Dec.{eqb, leb, ltb}
-use borrow.Author.Tests.{lt-ltb, le-leb, lt-leb, leb-true, ltb-true, eq-eqb, ne-eqb, eqb-true, eqb-false}
-use Rattle.octets.specs.Choice.{pick, both, either}
+use borrow.Author.Tests.{lt-ltb, le-leb, lt-leb, leb-true, ltb-true, eq-eqb, eqb-true}
+use Rattle.octets.specs.Choice.{both, either}
 use Rattle.octets.proofs.ChoiceLaws.{both-true, both-is, either-first, either-second, either-case, by-test, by-equal, clash}
 use Rattle.angles.specs.Angles.{angleOf, degreesOf, letterOf, eitherLetter, isSide, isCorner}
 use Rattle.angles.specs.declared.Axis.{Axis}

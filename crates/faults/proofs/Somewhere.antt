@@ -7,10 +7,10 @@ use mathlib.Core.List.{List}
 use lib.Dec.{eqb, leb, lit≤}
 use lib.ListN.{getD}
 use borrow.Author.Tests.{le-leb, leb-true, eq-eqb, eqb-true, eqb-false}
-use Rattle.octets.specs.Choice.{pick, both, either}
+use Rattle.octets.specs.Choice.{pick, both}
 use Rattle.octets.specs.Digits.{digitsAt, decimalAt}
 use Rattle.octets.specs.Texts.{ascii, has}
-use Rattle.octets.proofs.ChoiceLaws.{both-true, both-is, by-test, clash}
+use Rattle.octets.proofs.ChoiceLaws.{both-true, both-is, clash}
 use Rattle.layout.specs.Grid.{gridOf}
 use Rattle.layout.specs.Zones.{edgeOf}
 use Rattle.layout.proofs.NearEdges.{edge-below}
@@ -27,7 +27,7 @@ use Rattle.fields.specs.declared.Due.{Due}
 use Rattle.fields.specs.declared.Due.the-variants as due
 use Rattle.due.specs.Due.{numberOf}
 use Rattle.due.specs.declared.Basis.{Basis}
-use Rattle.rules.specs.Rules.{isLetter, isNumber, isOfGrid, isSeries, angleHolds, dueHolds}
+use Rattle.rules.specs.Rules.{isLetter, angleHolds, dueHolds}
 use Rattle.rules.proofs.DueHolds.{of-grid}
 use Rattle.faults.specs.Ever.{inTable, isSomeNumber, isSomeEdge, isSomeAngle, isSomeLetter, isSomeSeries}
 use Rattle.faults.specs.Fault.{dueFault}

@@ -1,9 +1,8 @@
 -- N21 to N23 in the scope's own words. Of the first field that breaks its rule, 21 is told exactly where no accepted header has these bytes in
 -- that field; 23 exactly where one has, and the field holds an interval or a count; 22 exactly where one has, and it does not.
-use Prim.Native.Nat.{ℕ, _+_, _<_, _≤_}
+use Prim.Native.Nat.{ℕ, _+_, _≤_}
 use native.Mathlib.Omega.{arith}
-use mathlib.Core.Path.{_≡_, refl, sym, ap, subst, _∙_}
-use mathlib.Core.Bool.{true, false}
+use mathlib.Core.Path.{_≡_, refl, sym, ap, _∙_}
 use mathlib.Core.List.{List}
 use lib.ListN.{length}
 use Rattle.octets.proofs.ChoiceLaws.{clash}
@@ -17,7 +16,6 @@ use Rattle.fields.specs.declared.Due.{Due}
 use Rattle.fields.specs.declared.Due.the-variants as due
 use Rattle.fields.specs.declared.Kind.{Kind}
 use Rattle.fields.specs.declared.Kind.the-variants as kind
-use Rattle.due.specs.declared.Basis.{Basis}
 use Rattle.rules.specs.Rules.{holds, widthOf}
 use Rattle.faults.specs.Place.{wrongAt}
 use Rattle.faults.specs.Fault.{dueFault, kindFault, fault}
@@ -25,7 +23,7 @@ use Rattle.faults.proofs.Somewhere.{Decided, nowhere, off-table, contradicts, d
 use Rattle.headers.specs.Basis.{basisIn}
 use Rattle.headers.specs.Judged.{broken, judged, Stands, Impossible}
 use Rattle.headers.specs.declared.JudgedHeaders.the-variants.{Refused}
-use Rattle.headers.proofs.Exactly.{First, FirstTold, broken-first, good-follows}
+use Rattle.headers.proofs.Exactly.{First, broken-first, good-follows}
 use Rattle.headers.proofs.BrokenPlace.{PlaceIn, place-told}
 use Rattle.headers.proofs.TableRows.{row, bytes-long}
 use Rattle.header_writer.proofs.SomeHeaders.{some-stand, stands-some}

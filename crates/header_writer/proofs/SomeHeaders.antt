@@ -1,10 +1,10 @@
 -- Headers that are accepted, with given bytes in a field: the writer's, of a description that makes them due, with the bytes put there.
-use Prim.Native.Nat.{ℕ, _+_, _<_, _≤_}
+use Prim.Native.Nat.{ℕ, _<_}
 use native.Mathlib.Omega.{arith}
 use mathlib.Core.Path.{_≡_, refl, sym, ap, subst, _∙_}
-use mathlib.Core.Bool.{Bool, true}
+use mathlib.Core.Bool.{true}
 use mathlib.Core.List.{List}
-use lib.Dec.{ltb, leb, lit<}
+use lib.Dec.{lit<}
 use lib.ListN.{length, getD, take, drop}
 use borrow.Author.Tests.{lt-ltb}
 use Rattle.octets.specs.Pastes.{pasted}
@@ -18,12 +18,10 @@ use Rattle.fields.specs.declared.Item.the-variants as item
 use Rattle.fields.specs.declared.Whose.{Whose}
 use Rattle.fields.specs.declared.Whose.the-variants as whose
 use Rattle.fields.specs.declared.Due.{Due}
-use Rattle.fields.specs.declared.Kind.{Kind}
 use Rattle.fields.specs.declared.Kind.the-variants as kind
 use Rattle.fields.proofs.ItemRows.{item-there, item-below}
 use Rattle.due.specs.Due.{dueWidth}
-use Rattle.due.specs.declared.Basis.{Basis}
-use Rattle.rules.specs.Rules.{isLetter, isSecurity, itemHolds, dueHolds, holds, widthOf}
+use Rattle.rules.specs.Rules.{isLetter, itemHolds, dueHolds, holds, widthOf}
 use Rattle.faults.proofs.Somewhere.{Somewhere}
 use Rattle.headers.specs.Basis.{latitudeIn, longitudeIn, levelAt, securityIn, basisIn}
 use Rattle.headers.specs.Judged.{keeps, factsIn, Follows, Stands}

@@ -1,21 +1,21 @@
 -- The first four rules need nothing due, and fix a level, an origin and a grid within their ranges.
-use Prim.Native.Nat.{ℕ, zero, suc, _+_, _-_, _<_}
+use Prim.Native.Nat.{ℕ, zero, suc, _<_}
 use native.Mathlib.Omega.{arith}
-use mathlib.Core.Path.{_≡_, refl, sym, _∙_}
+use mathlib.Core.Path.{_≡_, refl}
 use mathlib.Core.Bool.{Bool, true, false}
 use mathlib.Core.List.{List}
-use lib.Dec.{eqb, leb, ltb, lit<}
+use lib.Dec.{lit<}
 use lib.ListN.{take, drop}
-use borrow.Author.Tests.{leb-true, ltb-true, eqb-true, eqb-false, ne-eqb}
-use Rattle.octets.specs.Choice.{pick, both, either}
+use borrow.Author.Tests.{eqb-false}
+use Rattle.octets.specs.Choice.{pick}
 use Rattle.octets.specs.Texts.{ascii, has}
 use Rattle.octets.proofs.DigitLaws.{decimal-below}
-use Rattle.octets.proofs.ChoiceLaws.{both-true, by-test, clash}
+use Rattle.octets.proofs.ChoiceLaws.{both-true}
 use Rattle.layout.specs.Grid.{gridOf}
 use Rattle.layout.specs.Ranges.{Ranged}
 use Rattle.layout.proofs.Ranges.{ranged}
 use Rattle.rules.proofs.GridNumbers.{number-small}
-use Rattle.angles.specs.Angles.{northward, eastward, isAngle, degreesIn, letterIn, isOrigin, angleOf}
+use Rattle.angles.specs.Angles.{northward, eastward, isAngle, degreesIn, letterIn, isOrigin}
 use Rattle.layout.specs.Zones.{edgeOf}
 use Rattle.headers.specs.Basis.{originAt, latitudeIn, longitudeIn, levelAt, basisIn}
 use Rattle.due.specs.Due.{nothing, numberOf, dueText}

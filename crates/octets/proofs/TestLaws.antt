@@ -8,7 +8,7 @@ use native.Mathlib.Nat.{le-of-suc-le-suc, not-suc-le-zero, eq-or-lt-of-le}
 use native.Mathlib.Omega.{arith}
 use lib.Dec.{T}
 use lib.ListN.{getD}
-use Rattle.octets.specs.Choice.{both, either}
+use Rattle.octets.specs.Choice.{both}
 use Rattle.octets.specs.Tests.{every, allBelow, someBelow}
 use Rattle.octets.proofs.ChoiceLaws.{by-test, by-equal}
 

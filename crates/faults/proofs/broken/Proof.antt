@@ -3,7 +3,6 @@ use Prim.Native.Nat.{ℕ, _+_}
 use mathlib.Core.Path.{ap, _∙_}
 use Rattle.rules.specs.Rules.{widthOf}
 use Rattle.faults.specs.Fault.{dueFault}
-use native.Mathlib.Omega.{arith}
 use Rattle.faults.specs.Fault.{fault}
 use borrow.Author.Needs.{needs}
 use Rattle.faults.proofs.broken.Statement.{statement}

@@ -1,7 +1,7 @@
 -- `is_angle`: the form, and what is named in it, by what is due at the first origin.
 use Prim.Native.Nat.{ℕ, _+_, _-_, _^_, _<_, _≤_}
 use native.Mathlib.Omega.{arith}
-use mathlib.Core.Path.{_≡_, sym, ap, _∙_}
+use mathlib.Core.Path.{_≡_, ap, _∙_}
 use lib.Dec.{lit≤}
 use lib.ListN.{length, getD}
 use Rattle.octets.specs.Choice.{both}

@@ -1,6 +1,6 @@
 -- `last_edge`: every bound is above 0.
 use Prim.Native.Nat.{ℕ, _<_}
-use mathlib.Core.Path.{_≡_, refl}
+use mathlib.Core.Path.{refl}
 use mathlib.Core.Bool.{Bool}
 use lib.Dec.{ltb}
 use lib.ListN.{getD}
