@@ -1,3 +1,4 @@
+-- `corner_may_end`: the two tests, joined.
 use borrow.Author.Needs.{needs}
 use Rattle.due.proofs.compare.corner_may_end.Statement.{statement}
 use Rattle.due.proofs.compare.corner_may_end.Tie as tie

@@ -1,3 +1,4 @@
+-- `may_end`: an angle may end in another letter, nothing else.
 use borrow.Author.Needs.{needs}
 use Rattle.due.proofs.compare.may_end.Statement.{statement}
 use Rattle.due.proofs.compare.may_end.Tie as tie

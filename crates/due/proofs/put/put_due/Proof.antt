@@ -1,3 +1,4 @@
+-- `put_due`: one arm to what is due.
 use borrow.Author.Needs.{needs}
 use Prim.Native.Nat.{suc, _+_}
 use lib.ListN.{length}

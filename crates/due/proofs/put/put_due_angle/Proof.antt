@@ -1,3 +1,4 @@
+-- `put_due_angle`: in one form or the other.
 use Prim.Native.Nat.{suc, _+_}
 use borrow.Author.Needs.{needs}
 use lib.ListN.{length}
