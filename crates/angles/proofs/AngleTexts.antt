@@ -13,6 +13,9 @@ use Rattle.octets.specs.Texts.{differ, has}
 use Rattle.octets.specs.Digits.{digitsAt, decimalAt, digitsOf}
 use Rattle.octets.proofs.ChoiceLaws.{both-true, by-test, clash}
 use Rattle.octets.proofs.DigitLaws.{length-digits, decimal-back, digits-are}
+use Rattle.octets.specs.Numbers.{Bytes}
+use Rattle.octets.proofs.ByteLaws.{one-byte, digits-bytes}
+use Rattle.octets.proofs.FrontLaws.{bytes-join}
 use Rattle.octets.proofs.TextLaws.{part-has, has-append, ends-either}
 use Rattle.octets.proofs.DigitTexts.{has-digits}
 use Rattle.angles.specs.Angles.{Form, degreesIn, letterIn, isAngle, isOrigin, angleOf, degreesOf, letterOf, isSame, isCorner, mayCarry, angleText}
@@ -75,6 +78,16 @@ module _ (f : Form) (a : Axis) (angle : ℕ) where
   pub angle-is : isAngle f (angleText f a angle) ≡ true
   unfolding angleText
   angle-is = named-is f (degreesOf a angle) (letterOf a angle)
+
+  pub angle-bytes : Bytes (f .zeros) → a .plus < 256 → a .minus < 256 → Bytes (angleText f a angle)
+  unfolding angleText
+  angle-bytes z p m =
+      let ds = digitsOf (f .digits) (degreesOf a angle) in
+      bytes-join (ds ++ f .zeros) (letterOf a angle ∷ []) (bytes-join ds (f .zeros) (digits-bytes (f .digits) (degreesOf a angle)) z)
+      (one-byte (letterOf a angle)
+      (by-test (leb (a .most) angle)
+      (λ e. rw e p)
+      (λ e. rw e m)))
 
 module _ (a : Axis) (angle : ℕ) where
   pub degrees-small : angle ≤ a .most + a .most → degreesOf a angle ≤ a .most

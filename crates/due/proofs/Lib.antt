@@ -1,2 +1,3 @@
--- The laws of what is due: how many bytes it has.
+-- The laws of what is due: how many it has, and that they are bytes.
 pub mod DueWidths
+pub mod DueBytes

@@ -7,5 +7,6 @@ pub mod BasisBack
 pub mod WrittenHolds
 pub mod RoundTrip
 pub mod WrittenGood
+pub mod WrittenBytes
 pub mod SomeHeaders
 pub mod FieldTold

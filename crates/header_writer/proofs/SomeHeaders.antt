@@ -11,7 +11,8 @@ use Rattle.octets.specs.Pastes.{pasted}
 use Rattle.octets.specs.Texts.{ascii, has}
 use Rattle.octets.proofs.ChoiceLaws.{by-equal, both-true}
 use Rattle.octets.proofs.PartLaws.{paste-shown, byte-part}
-use Rattle.octets.proofs.PasteLaws.{length-paste}
+use Rattle.octets.specs.Numbers.{Bytes}
+use Rattle.octets.proofs.PasteLaws.{length-paste, paste-bytes}
 use Rattle.fields.specs.Table.{bytesIn, fieldAt, itemRow, placeOf}
 use Rattle.fields.specs.declared.Item.{Item}
 use Rattle.fields.specs.declared.Item.the-variants as item
@@ -22,6 +23,7 @@ use Rattle.fields.specs.declared.Kind.the-variants as kind
 use Rattle.fields.proofs.ItemRows.{item-there, item-below}
 use Rattle.due.specs.Due.{dueWidth}
 use Rattle.rules.specs.Rules.{isLetter, itemHolds, dueHolds, holds, widthOf}
+use Rattle.rules.proofs.KeptBytes.{kept-bytes}
 use Rattle.faults.proofs.Somewhere.{Somewhere}
 use Rattle.headers.specs.Basis.{latitudeIn, longitudeIn, levelAt, securityIn, basisIn}
 use Rattle.headers.specs.Judged.{keeps, factsIn, Follows, Stands}
@@ -35,10 +37,13 @@ use Rattle.description.specs.declared.Accuracy.the-variants.{Unknown}
 use Rattle.description.specs.declared.Datum.the-variants.{Msl}
 use Rattle.description.specs.declared.Description.{Description}
 use Rattle.description.proofs.ItemOrder.{all-items}
+use Rattle.description.proofs.RangedItems.{ranged-items}
 use Rattle.header_writer.specs.Written.{headersFor}
 use Rattle.header_writer.proofs.BasisBack.{basis-back}
 use Rattle.header_writer.proofs.FieldsApart.{text-apart, rows-apart}
 use Rattle.header_writer.proofs.RoundTrip.{written-follows}
+use Rattle.header_writer.proofs.WrittenBytes.{letter-byte, headers-bytes}
+use Rattle.header_writer.proofs.WrittenHolds.{basis-ranged}
 use Rattle.header_writer.proofs.WrittenLength.{length-headers}
 
 -- a description of this level, origin and letter
@@ -134,8 +139,16 @@ module _ (d : Description) (ranged : inRange d ≡ true) (i : ℕ) (below : i < 
             (λ q. holds (fieldAt j .2) ((same-basis ∙ sym (basis-back d ranged)) q) (others j h ne q)) ∙ written-follows d ranged .1 j h),
       )
 
+  -- all of it bytes
+  put-bytes : Bytes put
+  unfolding basisOf
+  put-bytes =
+      let r = ranged-items d ranged in
+      paste-bytes (headersFor d) (fieldAt i .0) v (headers-bytes d ranged)
+      (kept-bytes k (basisOf d) (basis-ranged d r) (letter-byte (d .security) (r .security)) v wide due)
+
   pub put-stands : Stands (fieldAt i) v
-  put-stands = record { headers = put; facts = factsIn put; accepted = follows-good put put-follows; there = shown }
+  put-stands = record { headers = put; bytes = put-bytes; facts = factsIn put; accepted = follows-good put put-follows; there = shown }
 
 -- the letter of headers that are accepted
 letter-kept : (s : List ℕ) → Follows s → isLetter (securityIn s) ≡ true

@@ -74,7 +74,7 @@ module _ (d : Description) (r : RangedItems d) where
   unfolding basisOf
   grid-ranged = ranged (d .level) (edgeOf (d .latitude)) (r .level) (edge-below (d .latitude) (r .latitude))
 
-  basis-ranged : BasisInRange (basisOf d)
+  pub basis-ranged : BasisInRange (basisOf d)
   unfolding basisOf gridOf
   basis-ranged = record {
     origin = record { latitude = r .latitude; longitude = r .longitude };

@@ -7,6 +7,7 @@ use lib.ListN.{length}
 use lib.Dec.{eqb, ltb}
 use Rattle.octets.specs.Choice.{pick}
 use Rattle.octets.specs.Digits.{decimalAt}
+use Rattle.octets.specs.Numbers.{Bytes}
 use Rattle.answers.specs.declared.Refusal.{Refusal}
 use Rattle.answers.specs.declared.Refusal.the-variants as because
 use Rattle.layout.specs.Grid.{headerBytes}
@@ -51,9 +52,10 @@ judged s = pick (ltb (length s) headerBytes) (Refused (because.Short (length s))
 abbrev pub Follows : List ℕ → Type 0
 Follows s = (headerBytes ≤ length s) × ((i : ℕ) → i < length fields → keeps s (basisIn s) (fieldAt i) ≡ true)
 
--- N21: headers that are accepted and have these bytes in a field. The bytes are impossible there where there are none
+-- N21: bytes that are accepted as headers and have these ones in a field. Those are impossible there where there are none such
 pub record Stands (f : Field) (v : List ℕ) : Type 0 where
   pub headers : List ℕ
+  pub bytes : Bytes headers
   pub facts : Facts
   pub accepted : judged headers ≡ Good facts
   pub there : bytesIn headers f ≡ v

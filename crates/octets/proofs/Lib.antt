@@ -17,3 +17,4 @@ pub mod DigitTexts
 pub mod JoinedLaws
 pub mod WordLaws
 pub mod Signed
+pub mod ByteLaws
