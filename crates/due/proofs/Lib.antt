@@ -1,3 +1,3 @@
--- The laws of what is due: how many it has, and that they are bytes.
+-- The laws of what is due: how long it is, and that it is bytes.
 pub mod DueWidths
 pub mod DueBytes
