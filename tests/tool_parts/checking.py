@@ -9,11 +9,13 @@ from running import ROOT, filled, fresh, run, same, second_writer, stored, told
 RECORDS = {"UHL": 0, "DSI": 80, "ACC": 728}
 GOOD = "accepted, level 0, 21 columns of 121 posts"
 IMPOSSIBLE = "refused 21: a header field has bytes that are never accepted there"
+OFF_TABLE = "refused 23: an interval or a count is not that of level and zone"
 # the words of every number that a file can cause, the first cell that causes it, and where it is
 LINES = (("empty.dt0", "refused 1: fewer bytes than the headers have (length 0)"),
          ("edition_00.dt0", f"{IMPOSSIBLE} (offset 167: DSI 88-89, edition)"),
          ("wrong_interval.dt0", f"{IMPOSSIBLE} (offset 21: UHL 21-24, longitude interval)"),
          ("other_latitude.dt0", "refused 22: a header field contradicts another field (offset 266: DSI 186-194, origin latitude)"),
+         ("columns_of_zone_i.dt0", f"{OFF_TABLE} (offset 48: UHL 48-51, columns)"),
          ("one_short.dt0", "refused 3: a column is not there whole (offset 8508), column 20"),
          ("renumbered_column.dt0", "refused 4: a preamble field is wrong (offset 3683), column 1"),
          ("wrong_first_checksum.dt0", "refused 5: a checksum differs (offset 3678), column 0"),
@@ -21,7 +23,6 @@ LINES = (("empty.dt0", "refused 1: fewer bytes than the headers have (length 0)"
          ("void_in_complete.dt0", "refused 6: a post word is not allowed (offset 8756), column 20, post 120"),
          ("one_long.dt0", "refused 7: bytes stand after the last column (length due 8762)"),
          ("north_89.dt0", GOOD))
-OFF_TABLE = "refused 23: an interval or a count is not that of level and zone"
 # north_89.dt0 with another text in a field
 TEXTS = ((47, "0031", f"{OFF_TABLE} (offset 49: UHL 48-51, columns)"),
          (357, "1200", f"{OFF_TABLE} (offset 358: DSI 278-281, longitude interval)"),

@@ -1,25 +1,51 @@
 -- N21 to N23 over the exported calls' own promises: where a field of the headers is the first that breaks its rule, each call that judges
--- headers tells the same of it: the place lies in that field, and the number is 21, 22 or 23 exactly as the scope says.
-use mathlib.Core.Path.{_≡_, ap, _∙_}
+-- headers tells the same of it, the place in that field and the number 21, 22 or 23 exactly as the scope says; and of nothing else.
+use Prim.Native.Nat.{ℕ, _+_, _<_, _≤_}
+use native.Mathlib.Omega.{arith}
+use mathlib.Core.Path.{_≡_, refl, sym, ap, subst, _∙_}
+use mathlib.Core.Bool.{Bool}
 use mathlib.Core.List.{List}
-use Prim.Native.Nat.{ℕ}
+use lib.Dec.{lit<}
+use lib.IntN.{ℤ}
+use lib.ListN.{length}
 use contract.Lifetimes as L
 use denote.Ref.{now}
 use borrow.Fn.Kinds as K
 use Rattle.answers.specs.Told.{Told, numbered, numberTold, placeTold, told, post, act}
+use Rattle.answers.specs.declared.Refusal.{Refusal}
+use Rattle.answers.specs.declared.Refusal.the-variants as because
+use Rattle.answers.specs.declared.Outcome.{Outcome}
+use Rattle.answers.specs.declared.Reading.{Reading}
+use Rattle.answers.specs.declared.Reading.the-variants as reading
 use Rattle.host_answers.specs.Apart.{toldIn}
+use Rattle.posts.specs.Words.{postOf}
+use Rattle.posts.specs.declared.Post.{Post}
+use Rattle.posts.specs.declared.Post.the-variants.{Height, Void}
 use Rattle.fields.specs.Table.{bytesIn, fieldAt}
 use Rattle.headers.specs.Basis.{basisIn}
-use Rattle.headers.specs.Judged.{broken}
-use Rattle.headers.proofs.Exactly.{First, first-refused}
+use Rattle.headers.specs.Judged.{broken, judged, frameIn}
+use Rattle.headers.specs.declared.JudgedHeaders.{JudgedHeaders}
+use Rattle.headers.specs.declared.JudgedHeaders.the-variants as headers
+use Rattle.headers.proofs.Exactly.{First, Answer, short, breaks, good, answered, first-refused}
 use Rattle.headers.proofs.BrokenPlace.{PlaceIn, place-told}
 use Rattle.header_writer.proofs.FieldTold.{NumberExactly, number-told}
+use Rattle.columns.specs.Column.{wordAt, sumAt}
+use Rattle.columns.specs.Judged.{judgedColumn}
+use Rattle.columns.specs.declared.JudgedColumn.{JudgedColumn}
+use Rattle.columns.specs.declared.JudgedColumn.the-variants as columns
+use Rattle.columns.proofs.ColumnExactly as column-rows
+use Rattle.cells.specs.Cell.{startOf, columnAt}
 use Rattle.description.specs.Described.{describedBy, described}
+use Rattle.intake.specs.Intake.{taken}
 use Rattle.intake.proofs.IntakeExactly as intake-rows
-use Rattle.lookup.specs.Lookup.{readingOf, lookedUp}
+use Rattle.lookup.specs.Lookup.{postReads, readingOf, lookedUp}
+use Rattle.lookup.specs.Reach.{spotIn, reached}
+use Rattle.lookup.specs.declared.reach.Reached.{Reached}
+use Rattle.lookup.specs.declared.reach.Reached.the-variants as reach
 use Rattle.lookup.proofs.ReachedExactly as lookup-rows
+use Rattle.position.specs.Position.{nearestColumn, nearestPost, saidAt, located}
 use Rattle.position.proofs.PositionExactly as position-rows
-use Rattle.edit.specs.Edit.{editTold}
+use Rattle.edit.specs.Edit.{judgedEdit, editTold}
 use Rattle.edit.proofs.EditExactly as edit-rows
 use Rattle.dted.specs.Description.{saidOfDescribed}
 use Rattle.dted.proofs.cells.dted_intake.Reads as intake-call
@@ -80,3 +106,116 @@ unfolding described
 describe-field κs a r s kept i f =
     let l = now (a .0) in
     told-so l i f (toldIn r) (describe-told κs a r s kept ∙ ap (λ (x : _). saidOfDescribed (describedBy l x)) (first-refused l i f))
+
+-- And of nothing else: whoever tells a number from 21 on was lent headers with a field that breaks its rule.
+pub record BrokenField (l : List ℕ) : Type 0 where
+  pub row : ℕ
+  pub first : First l row
+
+by-answer : (l : List ℕ) (j : JudgedHeaders) → Answer l j → (r : Refusal) → j ≡ headers.Refused r → 21 ≤ numberTold (numbered r) → BrokenField l
+by-answer l _ (short h) r e n =
+    let same : because.Short (length l) ≡ r = cc in
+    let low : 21 ≤ 1 = subst (λ (x : Refusal). 21 ≤ numberTold (numbered x)) (sym same) n in
+    absurd (omega arith)
+by-answer l _ (breaks i f) r e n = record { row = i; first = f }
+by-answer l _ (good h) r e n = let z : _≡_ {A = ℕ} 0 1 = cc in absurd (omega arith)
+
+headers-broken : (l : List ℕ) (r : Refusal) → judged l ≡ headers.Refused r → 21 ≤ numberTold (numbered r) → BrokenField l
+headers-broken l r e n = by-answer l (judged l) (answered l) r e n
+
+-- a column's refusals are 4, 5 and 6
+same-below : (q r : Refusal) → columns.Refused q ≡ columns.Refused r → numberTold (numbered q) < 21 → numberTold (numbered r) < 21
+same-below q r e h = let same : q ≡ r = cc in subst (λ (x : Refusal). numberTold (numbered x) < 21) same h
+
+module _ (s : List ℕ) (k posts : ℕ) (voids : Bool) (base : ℕ) where
+  by-column : (j : JudgedColumn) → column-rows.Row s k posts voids base j → (r : Refusal) → j ≡ columns.Refused r → numberTold (numbered r) < 21
+  by-column _ (column-rows.sentinel n) r e = same-below (because.Preamble base) r e (lit< tt)
+  by-column _ (column-rows.block a n) r e = same-below (because.Preamble (base + 1)) r e (lit< tt)
+  by-column _ (column-rows.longitude a b n) r e = same-below (because.Preamble (base + 4)) r e (lit< tt)
+  by-column _ (column-rows.latitude a b c n) r e = same-below (because.Preamble (base + 6)) r e (lit< tt)
+  by-column _ (column-rows.checksum p n) r e = same-below (because.Checksum (base + sumAt posts)) r e (lit< tt)
+  by-column _ (column-rows.word h i u bad f) r e = same-below (because.Word (base + wordAt i)) r e (lit< tt)
+  by-column _ (column-rows.good h f) r e = let z : _≡_ {A = ℕ} 0 1 = cc in absurd (omega arith)
+
+  column-below : (r : Refusal) → judgedColumn s k posts voids base ≡ columns.Refused r → numberTold (numbered r) < 21
+  column-below r e = by-column (judgedColumn s k posts voids base) (column-rows.row s k posts voids base) r e
+
+-- the rows of intake, and of a post that is reached
+by-intake : (l : List ℕ) (t : Told) → intake-rows.IntakeRow l t → 21 ≤ numberTold t → BrokenField l
+by-intake l _ (intake-rows.bad-headers r e) n = headers-broken l r e n
+by-intake l _ (intake-rows.cut h k u f c) n = absurd (omega (arith, n))
+by-intake l _ (intake-rows.column h k u f w r e) n =
+    let g = frameIn l .grid in
+    absurd (omega (arith, n, column-below (columnAt l g k) k (g .posts) (frameIn l .voids) (startOf g k) r e))
+by-intake l _ (intake-rows.surplus h f m) n = absurd (omega (arith, n))
+by-intake l _ (intake-rows.fine cell) n = absurd (omega (arith, n))
+
+reads-0 : (q : Post) → numberTold (told post (postReads q)) ≡ 0
+reads-0 (Height z) = refl
+reads-0 Void = refl
+
+by-reached : (l : List ℕ) (c p : ℕ) (x : Reached) → lookup-rows.Row l c p x → 21 ≤ numberTold (told post (readingOf x)) → BrokenField l
+by-reached l c p _ (lookup-rows.bad-headers r e) n = headers-broken l r e n
+by-reached l c p _ (lookup-rows.off h away) n = absurd (omega (arith, n))
+by-reached l c p _ (lookup-rows.cut o s) n = absurd (omega (arith, n))
+by-reached l c p _ (lookup-rows.column o w r e) n =
+    let g = frameIn l .grid in
+    absurd (omega (arith, n, column-below (columnAt l g c) c (g .posts) (frameIn l .voids) (startOf g c) r e))
+by-reached l c p _ (lookup-rows.good o w g) n = absurd (omega (arith, n, reads-0 (postOf (spotIn l (frameIn l) c p .word))))
+
+same-number : (c p : ℕ) (y : Reading) → numberTold (saidAt c p y) ≡ numberTold (told post y)
+same-number c p (reading.Height z) = refl
+same-number c p reading.Void = refl
+same-number c p (reading.Refused r) = refl
+
+by-position : (l : List ℕ) (latitude longitude : ℤ) (t : Told) → position-rows.Row l latitude longitude t → 21 ≤ numberTold t → BrokenField l
+by-position l latitude longitude _ (position-rows.bad-headers r e) n = headers-broken l r e n
+by-position l latitude longitude _ (position-rows.off f e w) n = absurd (omega (arith, n))
+by-position l latitude longitude _ (position-rows.near f e k w) n =
+    let c = nearestColumn (f .grid) k in
+    let p = nearestPost (f .grid) k in
+    by-reached l c p (reached l c p) (lookup-rows.row l c p) (omega (arith, n, same-number c p (readingOf (reached l c p))))
+
+by-edit : (l : List ℕ) (c p : ℕ) (z : ℤ) (x : Outcome) → edit-rows.EditRow l c p z x → 21 ≤ numberTold (told act x) → BrokenField l
+by-edit l c p z _ (edit-rows.reaching r row) n = by-reached l c p (reach.Refused r) row n
+by-edit l c p z _ (edit-rows.height r e) n = absurd (omega (arith, n))
+by-edit l c p z _ (edit-rows.done r e) n = absurd (omega (arith, n))
+
+by-described : (l : List ℕ) (x : JudgedHeaders) → judged l ≡ x → 21 ≤ numberTold (saidOfDescribed (describedBy l x)) → BrokenField l
+by-described l (headers.Good f) e n = absurd (omega (arith, n))
+by-described l (headers.Refused r) e n = headers-broken l r e n
+
+module _ (κs : L.Lfts 1) where
+  pub intake-broken : (a : K.Dens κs intake-kinds.ps) (r : _) (s : _) → intake-call.Post κs a r s → 21 ≤ numberTold (toldIn r) → BrokenField (now (a .0))
+  intake-broken a r s kept n = let l = now (a .0) in by-intake l (taken l) (intake-rows.row l) (subst (λ (t : Told). 21 ≤ numberTold t) (intake-told κs a r s kept) n)
+
+  pub post-broken : (a : K.Dens κs post-kinds.ps) (r : _) (s : _) → post-call.Post κs a r s → 21 ≤ numberTold (toldIn r) → BrokenField (now (a .0))
+  unfolding lookedUp
+  post-broken a r s kept n =
+      let l = now (a .0) in
+      let c = a .1 .0 in
+      let p = a .1 .1 .0 in
+      by-reached l c p (reached l c p) (lookup-rows.row l c p) (subst (λ (t : Told). 21 ≤ numberTold t) (post-told κs a r s kept) n)
+
+  pub position-broken : (a : K.Dens κs position-kinds.ps) (r : _) (s : _) → position-call.Post κs a r s → 21 ≤ numberTold (toldIn r)
+      → BrokenField (now (a .0))
+  position-broken a r s kept n =
+      let l = now (a .0) in
+      by-position l (a .1 .0) (a .1 .1 .0) (located l (a .1 .0) (a .1 .1 .0)) (position-rows.row l (a .1 .0) (a .1 .1 .0))
+      (subst (λ (t : Told). 21 ≤ numberTold t) (position-told κs a r s kept) n)
+
+  pub edit-broken : (a : K.Dens κs edit-kinds.ps) (r : _) (s : _) → edit-call.Post κs a r s → 21 ≤ numberTold (toldIn r) → BrokenField (now (a .0))
+  unfolding editTold
+  edit-broken a r s kept n =
+      let l = now (a .0) in
+      let c = a .1 .0 in
+      let p = a .1 .1 .0 in
+      let z = a .1 .1 .1 .0 in
+      by-edit l c p z (judgedEdit l c p z) (edit-rows.row l c p z) (subst (λ (t : Told). 21 ≤ numberTold t) (edit-told κs a r s kept) n)
+
+pub describe-broken : (κs : L.Lfts 2) (a : K.Dens κs describe-kinds.ps) (r : _) (s : _) → describe-call.Post κs a r s → 21 ≤ numberTold (toldIn r)
+    → BrokenField (now (a .0))
+unfolding described
+describe-broken κs a r s kept n =
+    let l = now (a .0) in
+    by-described l (judged l) refl (subst (λ (t : Told). 21 ≤ numberTold t) (describe-told κs a r s kept) n)

@@ -213,13 +213,14 @@ placed (kind.Due d) b t r wide broken =
     (λ free. rw free (first-named (kind.Due d) b t wide (due-two d b (r .origin) free)))
     (λ free. rw free (wrong-named d b t r wide free broken))
 
--- and so several strings pass exactly where the definition says so
+-- several strings pass where the definition says so, and else no two
 pub several-pass : (k : Kind) (b : Basis) → BasisInRange b → several k b ≡ true → TwoPass k b
 several-pass (kind.Item i) b r e = item-two i b
 several-pass (kind.Due d) b r e = due-two d b (r .origin) e
 
-pub one-passes-alone : (d : Due) (b : Basis) → BasisInRange b → several (kind.Due d) b ≡ false → (u : List ℕ) → Passes (kind.Due d) b u → u ≡ dueText d b
-one-passes-alone d b r e u p = one-passes d b r e u (p .0) (p .1)
+pub one-alone : (k : Kind) (b : Basis) → BasisInRange b → several k b ≡ false → (u v : List ℕ) → Passes k b u → Passes k b v → u ≡ v
+one-alone (kind.Item i) b r e u v p q = clash refl e
+one-alone (kind.Due d) b r e u v p q = one-passes d b r e u (p .0) (p .1) ∙ sym (one-passes d b r e v (q .0) (q .1))
 
 -- what is said of a place hangs on which strings pass, and on nothing else of the basis
 pub placed-alike : (k : Kind) (b c : Basis) (t : List ℕ) (at : ℕ) → ((u : List ℕ) → holds k b u ≡ holds k c u) → Placed k b t at → Placed k c t at

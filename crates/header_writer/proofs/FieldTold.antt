@@ -4,6 +4,7 @@ use Prim.Native.Nat.{ℕ, _+_, _≤_}
 use native.Mathlib.Omega.{arith}
 use mathlib.Core.Path.{_≡_, refl, sym, ap, _∙_}
 use mathlib.Core.List.{List}
+use lib.Dec.{lit≤}
 use lib.ListN.{length}
 use Rattle.octets.proofs.ChoiceLaws.{clash}
 use Rattle.answers.specs.Told.{numbered, numberTold, placeTold}
@@ -73,8 +74,10 @@ module _ (s : List ℕ) (i : ℕ) (f : First s i) where
   unfolding fault
   field-meant = by-kind (fieldAt i .2) refl
 
--- each number exactly then
+-- one of the three, and each exactly then
 pub record NumberExactly (f : Field) (v : List ℕ) (number : ℕ) : Type 0 where
+  pub low : 21 ≤ number
+  pub high : number ≤ 23
   pub only-21 : number ≡ 21 → Impossible f v
   pub then-21 : Impossible f v → number ≡ 21
   pub only-22 : number ≡ 22 → Stands f v × (Counts f → ⊥)
@@ -84,6 +87,8 @@ pub record NumberExactly (f : Field) (v : List ℕ) (number : ℕ) : Type 0 wher
 
 number-of : (f : Field) (v : List ℕ) (place : ℕ) (r : Refusal) → Meant f v place r → NumberExactly f v (numberTold (numbered r))
 number-of f v place _ (impossible none) = record {
+  low = lit≤ tt;
+  high = lit≤ tt;
   only-21 = λ e. none;
   then-21 = λ h. refl;
   only-22 = λ e. absurd (omega arith);
@@ -92,6 +97,8 @@ number-of f v place _ (impossible none) = record {
   then-23 = λ w c. absurd (none w);
 }
 number-of f v place _ (against-field w none) = record {
+  low = lit≤ tt;
+  high = lit≤ tt;
   only-21 = λ e. absurd (omega arith);
   then-21 = λ h. absurd (h w);
   only-22 = λ e. (w, none);
@@ -100,6 +107,8 @@ number-of f v place _ (against-field w none) = record {
   then-23 = λ x c. absurd (none c);
 }
 number-of f v place _ (against-table w counts) = record {
+  low = lit≤ tt;
+  high = lit≤ tt;
   only-21 = λ e. absurd (omega arith);
   then-21 = λ h. absurd (h w);
   only-22 = λ e. absurd (omega arith);
