@@ -40,9 +40,6 @@ pub data Meant (f : Field) (v : List ℕ) (place : ℕ) : Refusal → Type 0 whe
   against-table : Stands f v → Counts f → Meant f v place (because.FieldOffTable place)
   against-field : Stands f v → (Counts f → ⊥) → Meant f v place (because.FieldContradicts place)
 
-never : _≡_ {A = ℕ} 0 1 → ⊥
-never e = omega arith
-
 module _ (s : List ℕ) (i : ℕ) (f : First s i) where
   abbrev field : List ℕ
   field = bytesIn s (fieldAt i)
