@@ -1,8 +1,8 @@
--- N21 to N23 over the exported calls' own promises: where a field of the headers is the first that breaks its rule, each call that judges
+-- N21 to N23 over the calls' own promises, inner and exported: where a field of the headers is the first that breaks its rule, each call that judges
 -- headers tells the same of it, the place in that field and the number 21, 22 or 23 exactly as the scope says; and of nothing else.
 use Prim.Native.Nat.{ℕ, _+_, _<_, _≤_}
 use native.Mathlib.Omega.{arith}
-use mathlib.Core.Path.{_≡_, refl, sym, ap, subst, _∙_}
+use mathlib.Core.Path.{_≡_, refl, sym, ap, subst}
 use mathlib.Core.Bool.{Bool}
 use mathlib.Core.List.{List}
 use lib.Dec.{lit<}
@@ -11,7 +11,7 @@ use lib.ListN.{length}
 use contract.Lifetimes as L
 use denote.Ref.{now}
 use borrow.Fn.Kinds as K
-use Rattle.answers.specs.Told.{Told, numbered, numberTold, placeTold, told, post, act}
+use Rattle.answers.specs.Told.{Told, numbered, numberTold, placeTold, told, intake, post, position, act}
 use Rattle.answers.specs.declared.Refusal.{Refusal}
 use Rattle.answers.specs.declared.Refusal.the-variants as because
 use Rattle.answers.specs.declared.Outcome.{Outcome}
@@ -48,6 +48,16 @@ use Rattle.position.proofs.PositionExactly as position-rows
 use Rattle.edit.specs.Edit.{judgedEdit, editTold}
 use Rattle.edit.proofs.EditExactly as edit-rows
 use Rattle.dted.specs.Description.{saidOfDescribed}
+use Rattle.intake.proofs.intake.Reads as taking
+use Rattle.intake.proofs.intake.Kinds as taking-kinds
+use Rattle.description.proofs.describe.describe.Reads as describing
+use Rattle.description.proofs.describe.describe.Kinds as describing-kinds
+use Rattle.lookup.proofs.look_up.Reads as looking
+use Rattle.lookup.proofs.look_up.Kinds as looking-kinds
+use Rattle.position.proofs.locate.Reads as locating
+use Rattle.position.proofs.locate.Kinds as locating-kinds
+use Rattle.edit.proofs.edit.Reads as editing
+use Rattle.edit.proofs.edit.Kinds as editing-kinds
 use Rattle.dted.proofs.cells.dted_intake.Reads as intake-call
 use Rattle.dted.proofs.cells.dted_intake.Kinds as intake-kinds
 use Rattle.dted.proofs.cells.dted_post.Reads as post-call
@@ -67,50 +77,21 @@ pub record FieldTold (l : List ℕ) (i : ℕ) (t : Told) : Type 0 where
   pub number : NumberExactly (fieldAt i) (bytesIn l (fieldAt i)) (numberTold t)
 
 told-so : (l : List ℕ) (i : ℕ) → First l i → (t : Told) → t ≡ numbered (broken l (basisIn l) (fieldAt i)) → FieldTold l i t
-told-so l i f t e = rw e (record { is = λ k. numbered (broken l (basisIn l) (fieldAt i)); place = place-told l i f; number = number-told l i f })
+told-so l i f t e = rw e (record { is = refl; place = place-told l i f; number = number-told l i f })
 
-module _ (κs : L.Lfts 1) where
-  pub intake-field : (a : K.Dens κs intake-kinds.ps) (r : _) (s : _) → intake-call.Post κs a r s → (i : ℕ) → First (now (a .0)) i
-      → FieldTold (now (a .0)) i (toldIn r)
-  intake-field a r s kept i f =
-      let l = now (a .0) in
-      told-so l i f (toldIn r) (intake-told κs a r s kept ∙ intake-rows.given l _ (intake-rows.bad-headers _ (first-refused l i f)))
-
-  pub post-field : (a : K.Dens κs post-kinds.ps) (r : _) (s : _) → post-call.Post κs a r s → (i : ℕ) → First (now (a .0)) i
-      → FieldTold (now (a .0)) i (toldIn r)
-  unfolding lookedUp
-  post-field a r s kept i f =
-      let l = now (a .0) in
-      told-so l i f (toldIn r)
-      (post-told κs a r s kept ∙ ap (λ (x : _). told post (readingOf x)) (lookup-rows.given l (a .1 .0) (a .1 .1 .0) _ (lookup-rows.bad-headers _ (first-refused l i f))))
-
-  pub position-field : (a : K.Dens κs position-kinds.ps) (r : _) (s : _) → position-call.Post κs a r s → (i : ℕ) → First (now (a .0)) i
-      → FieldTold (now (a .0)) i (toldIn r)
-  position-field a r s kept i f =
-      let l = now (a .0) in
-      told-so l i f (toldIn r)
-      (position-told κs a r s kept ∙ position-rows.given l (a .1 .0) (a .1 .1 .0) _ (position-rows.bad-headers _ (first-refused l i f)))
-
-  pub edit-field : (a : K.Dens κs edit-kinds.ps) (r : _) (s : _) → edit-call.Post κs a r s → (i : ℕ) → First (now (a .0)) i
-      → FieldTold (now (a .0)) i (toldIn r)
-  unfolding editTold
-  edit-field a r s kept i f =
-      let l = now (a .0) in
-      let bad = lookup-rows.bad-headers _ (first-refused l i f) in
-      told-so l i f (toldIn r)
-      (edit-told κs a r s kept ∙ ap (told act) (edit-rows.given l (a .1 .0) (a .1 .1 .0) (a .1 .1 .1 .0) _ (edit-rows.reaching _ bad)))
-
-pub describe-field : (κs : L.Lfts 2) (a : K.Dens κs describe-kinds.ps) (r : _) (s : _) → describe-call.Post κs a r s → (i : ℕ) → First (now (a .0)) i
-    → FieldTold (now (a .0)) i (toldIn r)
-unfolding described
-describe-field κs a r s kept i f =
-    let l = now (a .0) in
-    told-so l i f (toldIn r) (describe-told κs a r s kept ∙ ap (λ (x : _). saidOfDescribed (describedBy l x)) (first-refused l i f))
-
--- And of nothing else: whoever tells a number from 21 on was lent headers with a field that breaks its rule.
+-- a field of these bytes that is the first to break its rule
 pub record BrokenField (l : List ℕ) : Type 0 where
   pub row : ℕ
   pub first : First l row
+
+-- what a call tells of the headers that it was lent: of the first broken field as above, and a number from 21 on of nothing else
+pub record HeadersSaid (l : List ℕ) (t : Told) : Type 0 where
+  pub field : (i : ℕ) → First l i → FieldTold l i t
+  pub only : 21 ≤ numberTold t → BrokenField l
+
+-- from what its definition makes of refused headers, and of any
+said-by : (l : List ℕ) (t : Told) → ((r : Refusal) → judged l ≡ headers.Refused r → t ≡ numbered r) → (21 ≤ numberTold t → BrokenField l) → HeadersSaid l t
+said-by l t refused from-21 = record { field = λ i f. told-so l i f t (refused _ (first-refused l i f)); only = from-21 }
 
 by-answer : (l : List ℕ) (j : JudgedHeaders) → Answer l j → (r : Refusal) → j ≡ headers.Refused r → 21 ≤ numberTold (numbered r) → BrokenField l
 by-answer l _ (short h) r e n =
@@ -185,37 +166,68 @@ by-described : (l : List ℕ) (x : JudgedHeaders) → judged l ≡ x → 21 ≤ 
 by-described l (headers.Good f) e n = absurd (omega (arith, n))
 by-described l (headers.Refused r) e n = headers-broken l r e n
 
-module _ (κs : L.Lfts 1) where
-  pub intake-broken : (a : K.Dens κs intake-kinds.ps) (r : _) (s : _) → intake-call.Post κs a r s → 21 ≤ numberTold (toldIn r) → BrokenField (now (a .0))
-  intake-broken a r s kept n = let l = now (a .0) in by-intake l (taken l) (intake-rows.row l) (subst (λ (t : Told). 21 ≤ numberTold t) (intake-told κs a r s kept) n)
+-- what each definition says of headers
+intake-says : (l : List ℕ) → HeadersSaid l (taken l)
+intake-says l = said-by l (taken l) (λ r e. intake-rows.given l _ (intake-rows.bad-headers r e)) (by-intake l (taken l) (intake-rows.row l))
 
-  pub post-broken : (a : K.Dens κs post-kinds.ps) (r : _) (s : _) → post-call.Post κs a r s → 21 ≤ numberTold (toldIn r) → BrokenField (now (a .0))
-  unfolding lookedUp
-  post-broken a r s kept n =
-      let l = now (a .0) in
-      let c = a .1 .0 in
-      let p = a .1 .1 .0 in
-      by-reached l c p (reached l c p) (lookup-rows.row l c p) (subst (λ (t : Told). 21 ≤ numberTold t) (post-told κs a r s kept) n)
-
-  pub position-broken : (a : K.Dens κs position-kinds.ps) (r : _) (s : _) → position-call.Post κs a r s → 21 ≤ numberTold (toldIn r)
-      → BrokenField (now (a .0))
-  position-broken a r s kept n =
-      let l = now (a .0) in
-      by-position l (a .1 .0) (a .1 .1 .0) (located l (a .1 .0) (a .1 .1 .0)) (position-rows.row l (a .1 .0) (a .1 .1 .0))
-      (subst (λ (t : Told). 21 ≤ numberTold t) (position-told κs a r s kept) n)
-
-  pub edit-broken : (a : K.Dens κs edit-kinds.ps) (r : _) (s : _) → edit-call.Post κs a r s → 21 ≤ numberTold (toldIn r) → BrokenField (now (a .0))
-  unfolding editTold
-  edit-broken a r s kept n =
-      let l = now (a .0) in
-      let c = a .1 .0 in
-      let p = a .1 .1 .0 in
-      let z = a .1 .1 .1 .0 in
-      by-edit l c p z (judgedEdit l c p z) (edit-rows.row l c p z) (subst (λ (t : Told). 21 ≤ numberTold t) (edit-told κs a r s kept) n)
-
-pub describe-broken : (κs : L.Lfts 2) (a : K.Dens κs describe-kinds.ps) (r : _) (s : _) → describe-call.Post κs a r s → 21 ≤ numberTold (toldIn r)
-    → BrokenField (now (a .0))
+describe-says : (l : List ℕ) → HeadersSaid l (saidOfDescribed (described l))
 unfolding described
-describe-broken κs a r s kept n =
-    let l = now (a .0) in
-    by-described l (judged l) refl (subst (λ (t : Told). 21 ≤ numberTold t) (describe-told κs a r s kept) n)
+describe-says l =
+    said-by l (saidOfDescribed (described l)) (λ r e. ap (λ (x : JudgedHeaders). saidOfDescribed (describedBy l x)) e) (by-described l (judged l) refl)
+
+post-says : (l : List ℕ) (c p : ℕ) → HeadersSaid l (lookedUp l c p)
+unfolding lookedUp
+post-says l c p =
+    said-by l (lookedUp l c p)
+    (λ r e. ap (λ (x : Reached). told post (readingOf x)) (lookup-rows.given l c p _ (lookup-rows.bad-headers r e)))
+    (by-reached l c p (reached l c p) (lookup-rows.row l c p))
+
+position-says : (l : List ℕ) (latitude longitude : ℤ) → HeadersSaid l (located l latitude longitude)
+position-says l latitude longitude =
+    said-by l (located l latitude longitude)
+    (λ r e. position-rows.given l latitude longitude _ (position-rows.bad-headers r e))
+    (by-position l latitude longitude (located l latitude longitude) (position-rows.row l latitude longitude))
+
+edit-says : (l : List ℕ) (c p : ℕ) (z : ℤ) → HeadersSaid l (editTold l c p z)
+unfolding editTold
+edit-says l c p z =
+    said-by l (editTold l c p z)
+    (λ r e. ap (told act) (edit-rows.given l c p z _ (edit-rows.reaching r (lookup-rows.bad-headers r e))))
+    (by-edit l c p z (judgedEdit l c p z) (edit-rows.row l c p z))
+
+-- so over the calls' own promises
+said-of : (l : List ℕ) (t u : Told) → u ≡ t → HeadersSaid l t → HeadersSaid l u
+said-of l t u e = subst (HeadersSaid l) (sym e)
+
+pub intake-headers : (κs : L.Lfts 1) (a : K.Dens κs taking-kinds.ps) (r : _) (s : _) → taking.Post κs a r s → HeadersSaid (now (a .0)) (told intake r)
+intake-headers κs a r s kept = said-of _ _ _ kept (intake-says (now (a .0)))
+
+pub describe-headers : (κs : L.Lfts 1) (a : K.Dens κs describing-kinds.ps) (r : _) (s : _) → describing.Post κs a r s → HeadersSaid (now (a .0)) (saidOfDescribed r)
+describe-headers κs a r s kept = said-of _ _ _ (ap saidOfDescribed kept) (describe-says (now (a .0)))
+
+pub post-headers : (κs : L.Lfts 1) (a : K.Dens κs looking-kinds.ps) (r : _) (s : _) → looking.Post κs a r s → HeadersSaid (now (a .0)) (told post r)
+post-headers κs a r s kept = said-of _ _ _ kept (post-says (now (a .0)) (a .1 .0) (a .1 .1 .0))
+
+pub position-headers : (κs : L.Lfts 1) (a : K.Dens κs locating-kinds.ps) (r : _) (s : _) → locating.Post κs a r s → HeadersSaid (now (a .0)) (told position r)
+position-headers κs a r s kept = said-of _ _ _ kept (position-says (now (a .0)) (a .1 .0) (a .1 .1 .0))
+
+pub edit-headers : (κs : L.Lfts 1) (a : K.Dens κs editing-kinds.ps) (r : _) (s : _) → editing.Post κs a r s → HeadersSaid (now (a .0)) (told act r)
+edit-headers κs a r s kept = said-of _ _ _ (kept .0) (edit-says (now (a .0)) (a .1 .0) (a .1 .1 .0) (a .1 .1 .1 .0))
+
+-- and the exported ones: what the header takes out of an answer
+pub host-intake-headers : (κs : L.Lfts 1) (a : K.Dens κs intake-kinds.ps) (r : _) (s : _) → intake-call.Post κs a r s → HeadersSaid (now (a .0)) (toldIn r)
+host-intake-headers κs a r s kept = said-of _ _ _ (intake-told κs a r s kept) (intake-says (now (a .0)))
+
+pub host-describe-headers : (κs : L.Lfts 2) (a : K.Dens κs describe-kinds.ps) (r : _) (s : _) → describe-call.Post κs a r s
+    → HeadersSaid (now (a .0)) (toldIn r)
+host-describe-headers κs a r s kept = said-of _ _ _ (describe-told κs a r s kept) (describe-says (now (a .0)))
+
+pub host-post-headers : (κs : L.Lfts 1) (a : K.Dens κs post-kinds.ps) (r : _) (s : _) → post-call.Post κs a r s → HeadersSaid (now (a .0)) (toldIn r)
+host-post-headers κs a r s kept = said-of _ _ _ (post-told κs a r s kept) (post-says (now (a .0)) (a .1 .0) (a .1 .1 .0))
+
+pub host-position-headers : (κs : L.Lfts 1) (a : K.Dens κs position-kinds.ps) (r : _) (s : _) → position-call.Post κs a r s
+    → HeadersSaid (now (a .0)) (toldIn r)
+host-position-headers κs a r s kept = said-of _ _ _ (position-told κs a r s kept) (position-says (now (a .0)) (a .1 .0) (a .1 .1 .0))
+
+pub host-edit-headers : (κs : L.Lfts 1) (a : K.Dens κs edit-kinds.ps) (r : _) (s : _) → edit-call.Post κs a r s → HeadersSaid (now (a .0)) (toldIn r)
+host-edit-headers κs a r s kept = said-of _ _ _ (edit-told κs a r s kept) (edit-says (now (a .0)) (a .1 .0) (a .1 .1 .0) (a .1 .1 .1 .0))

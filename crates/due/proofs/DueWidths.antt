@@ -1,6 +1,7 @@
 -- What is due in a field has the field's width.
 use Prim.Native.Nat.{ℕ, suc, _+_, _≤_}
-use mathlib.Core.Path.{_≡_, refl, ap}
+use mathlib.Core.Path.{_≡_, refl, sym, ap, _∙_}
+use mathlib.Core.List.{List}
 use lib.Dec.{lit≤}
 use lib.ListN.{length}
 use Rattle.octets.proofs.DigitLaws.{length-digits}
@@ -33,6 +34,10 @@ length-due (due.Number n) b = length-digits 4 (numberOf n (b .grid))
 length-due (due.Angle a) b = length-edge a b
 length-due due.Letter b = refl
 length-due due.Series b = ap (λ (n : ℕ). suc (suc (suc (suc n)))) (length-digits 1 (b .grid .level))
+
+-- so it is as long as a field of that width
+pub as-long : (k : Due) (b : Basis) (t : List ℕ) → length t ≡ dueWidth k → length (dueText k b) ≡ length t
+as-long k b t wide = length-due k b ∙ sym wide
 
 -- what an angle's text asks of its field
 pub due-angle-wide : (a : Angle) (b : Basis) → angleWidth a ≡ suc (formOf (dueAngle a b) .digits + length (formOf (dueAngle a b) .zeros))

@@ -6,14 +6,13 @@ use mathlib.Core.Bool.{Bool, true, false, true≢false}
 use mathlib.Core.List.{List, [], _∷_}
 use lib.Dec.{eqb}
 use lib.ListN.{length, getD, take}
-use lib.Seq.{take-all}
 use borrow.Author.Tests.{eq-eqb, eqb-true, eqb-false}
 use Rattle.octets.specs.Choice.{both, either}
 use Rattle.octets.specs.Digits.{digitsAt}
 use Rattle.octets.specs.Places.{value, places}
 use Rattle.octets.specs.Texts.{ascii, differ}
 use Rattle.octets.proofs.ChoiceLaws.{both-is, either-second, by-test, clash}
-use Rattle.octets.proofs.TextLaws.{differ-bound, has-part, differ-front, differ-there}
+use Rattle.octets.proofs.TextLaws.{differ-bound, text-whole, differ-front, differ-there}
 use Rattle.angles.specs.Angles.{Form, form, northward, eastward, isAngle, degreesIn, letterIn, degreesOf, letterOf, eitherLetter, isSide, isCorner}
 use Rattle.angles.specs.declared.Axis.{Axis}
 use Rattle.angles.proofs.AngleTexts.{named, length-named, letter-named, degrees-named, named-is, degrees-small}
@@ -28,7 +27,7 @@ use Rattle.fields.specs.declared.Kind.the-variants as kind
 use Rattle.due.specs.Due.{dueAngle, dueText, mayEnd, dueWidth}
 use Rattle.due.specs.Asked.{OriginInRange}
 use Rattle.due.specs.declared.Basis.{Basis}
-use Rattle.due.proofs.DueWidths.{length-due}
+use Rattle.due.proofs.DueWidths.{length-due, as-long}
 use Rattle.rules.specs.Rules.{isAccuracy, itemHolds, angleHolds, dueHolds, holds, widthOf}
 use Rattle.rules.specs.Asked.{BasisInRange}
 use Rattle.rules.proofs.DueHolds.{due-holds, due-kept}
@@ -140,9 +139,6 @@ module _ (d : Due) (b : Basis) (r : BasisInRange b) (free : letterFree d b ≡ f
   abbrev at : ℕ
   at = differ t 0 (dueText d b)
 
-  as-long : length (dueText d b) ≡ length t
-  as-long = length-due d b ∙ sym wide
-
   -- the rule holds exactly where no byte differs
   holds-by : dueHolds d b t ≡ eqb at (length t)
   holds-by =
@@ -157,17 +153,12 @@ module _ (d : Due) (b : Basis) (r : BasisInRange b) (free : letterFree d b ≡ f
       no-other false false = refl
 
   pub one-passes : dueHolds d b t ≡ true → t ≡ dueText d b
-  one-passes e =
-      let all : at ≡ length t = eqb-true at (length t) (sym holds-by ∙ e) in
-      let long = as-long in
-      let there = has-part t 0 (dueText d b) (omega arith) (eq-eqb at (length (dueText d b)) (all ∙ sym long)) in
-      sym (take-all (length (dueText d b)) t (omega arith)) ∙ there
+  one-passes e = text-whole t (dueText d b) (as-long d b t wide) (eqb-true at (length t) (sym holds-by ∙ e))
 
   pub differs-inside : dueHolds d b t ≡ false → at < length t
   differs-inside e =
-      let long = as-long in
       let short : at ≡ length t → ⊥ = eqb-false at (length t) (sym holds-by ∙ e) in
-      omega (arith, differ-bound t 0 (dueText d b))
+      omega (arith, differ-bound t 0 (dueText d b), as-long d b t wide)
 
 -- two strings of one length that are not the same have a byte
 some-byte : (u v : List ℕ) → length u ≡ length v → (u ≡ v → ⊥) → 0 < length u
@@ -194,7 +185,7 @@ first-named k b t wide w = record {
 wrong-named : (d : Due) (b : Basis) (t : List ℕ) → BasisInRange b → length t ≡ dueWidth d → letterFree d b ≡ false → dueHolds d b t ≡ false
     → Placed (kind.Due d) b t (differ t 0 (dueText d b))
 wrong-named d b t r wide free broken =
-    let long = as-long d b r free t wide in
+    let long = as-long d b t wide in
     let inside = differs-inside d b r free t wide broken in
     let own = due-kept d b r in
     record {

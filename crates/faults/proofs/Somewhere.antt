@@ -125,32 +125,26 @@ module _ (f : Form) (a : Axis) (t : List ℕ) where
         let p = both-true (isAngle f t) (isCorner a (origin + first) degrees letter) e in
         both-is (isAngle f t) (isSomeEdge a first degrees letter) (p .0) (edge-some a apart some first degrees letter one origin h (p .1))
 
--- by an origin's latitude, or its longitude, alone
-at-latitude : (k : Due) (t : List ℕ) (latitude : ℕ) → latitude < 180 → dueHolds k (basisAt 0 latitude 0 0x55) t ≡ true → Somewhere k t
-at-latitude k t latitude h e = record {
+-- by an origin alone
+at-origin : (k : Due) (t : List ℕ) (latitude longitude : ℕ) → latitude < 180 → longitude < 360 → dueHolds k (basisAt 0 latitude longitude 0x55) t ≡ true
+    → Somewhere k t
+at-origin k t latitude longitude n h e = record {
   level = 0;
   latitude = latitude;
-  longitude = 0;
-  letter = 0x55;
-  level-below = omega arith;
-  latitude-below = h;
-  longitude-below = omega arith;
-  is-letter = refl;
-  holds = e;
-}
-
-at-longitude : (k : Due) (t : List ℕ) (longitude : ℕ) → longitude < 360 → dueHolds k (basisAt 0 0 longitude 0x55) t ≡ true → Somewhere k t
-at-longitude k t longitude h e = record {
-  level = 0;
-  latitude = 0;
   longitude = longitude;
   letter = 0x55;
   level-below = omega arith;
-  latitude-below = omega arith;
+  latitude-below = n;
   longitude-below = h;
   is-letter = refl;
   holds = e;
 }
+
+at-latitude : (k : Due) (t : List ℕ) (latitude : ℕ) → latitude < 180 → dueHolds k (basisAt 0 latitude 0 0x55) t ≡ true → Somewhere k t
+at-latitude k t latitude h = at-origin k t latitude 0 h (omega arith)
+
+at-longitude : (k : Due) (t : List ℕ) (longitude : ℕ) → longitude < 360 → dueHolds k (basisAt 0 0 longitude 0x55) t ≡ true → Somewhere k t
+at-longitude k t longitude h = at-origin k t 0 longitude (omega arith) h
 
 module _ (t : List ℕ) where
   angle-somewhere : (a : Angle) → isSomeAngle a t ≡ true → Somewhere (due.Angle a) t

@@ -8,7 +8,7 @@ use mathlib.Core.Bool.{Bool, true}
 use mathlib.Core.List.{List, [], _∷_, _++_}
 use lib.Dec.{eqb, lit≤}
 use lib.ListN.{length, getD, take, drop, length-append}
-use lib.Seq.{drop-cons, drop-length, take-length}
+use lib.Seq.{drop-cons, drop-length, take-all, take-length}
 use borrow.Author.Tests.{eq-eqb, ne-eqb, eqb-true, eqb-false}
 use Rattle.octets.specs.Choice.{pick, both, either}
 use Rattle.octets.specs.Texts.{differ, has}
@@ -82,6 +82,11 @@ module _ (s : List ℕ) where
       let next : at + suc (differ s (at + 1) ws) ≡ at + 1 + differ s (at + 1) ws = omega arith in
       differ-there (at + 1) ws (omega (arith, rw t at h)) (rw (t, next) at e))
       (λ t. eqb-false (getD s at 0) w t (rw (t, add-zero at) at e))
+
+-- a list in which all of a text stands, and no more, is the text
+pub text-whole : (s want : List ℕ) → length want ≡ length s → differ s 0 want ≡ length s → s ≡ want
+text-whole s want long e =
+    sym (take-all (length want) s (omega arith)) ∙ has-part s 0 want (omega arith) (eq-eqb (differ s 0 want) (length want) (e ∙ sym long))
 
 -- a text stands in itself
 pub text-self : (t : List ℕ) → has t 0 t ≡ true

@@ -28,7 +28,7 @@ use Rattle.fields.specs.declared.Due.the-variants as due
 use Rattle.due.specs.Due.{textOf, numberOf, dueAngle, dueAngleText, angleWidth, dueText, dueWidth, mayEnd}
 use Rattle.due.specs.Asked.{OriginInRange}
 use Rattle.due.specs.declared.Basis.{Basis}
-use Rattle.due.proofs.DueWidths.{length-due}
+use Rattle.due.proofs.DueWidths.{length-due, as-long}
 use Rattle.rules.specs.Rules.{isText, isNumber, isOfGrid, isSeries, angleHolds, dueHolds}
 use Rattle.rules.specs.Asked.{BasisInRange}
 
@@ -108,7 +108,7 @@ module _ (b : Basis) (r : BasisInRange b) (t : List ℕ) where
       → dueHolds k b t
       ≡ either (eqb (differ t 0 (dueText k b)) (length t)) (both (eqb (suc (differ t 0 (dueText k b))) (length t)) (mayEnd k b (getD t (length t - 1) 0)))
   due-holds k w =
-      let n : length (dueText k b) ≡ length t = length-due k b ∙ sym w in
+      let n = as-long k b t w in
       stands k w
       ∙ ap (λ (m : ℕ). either (eqb (differ t 0 (dueText k b)) m) (both (eqb (suc (differ t 0 (dueText k b))) (length t)) (mayEnd k b (getD t (length t - 1) 0)))) n
 

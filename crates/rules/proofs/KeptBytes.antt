@@ -6,13 +6,13 @@ use mathlib.Core.Bool.{true}
 use mathlib.Core.List.{List}
 use lib.Dec.{eqb, lit<}
 use lib.ListN.{length, getD, List·getD-eq-default}
-use lib.Seq.{take-all, getD-take}
-use borrow.Author.Tests.{eq-eqb, eqb-true}
+use lib.Seq.{getD-take}
+use borrow.Author.Tests.{eqb-true}
 use Rattle.octets.specs.Choice.{both}
 use Rattle.octets.specs.Numbers.{Bytes}
 use Rattle.octets.specs.Texts.{differ}
 use Rattle.octets.proofs.ChoiceLaws.{both-true, either-case, by-order, by-equal, clash}
-use Rattle.octets.proofs.TextLaws.{has-part, differ-front}
+use Rattle.octets.proofs.TextLaws.{text-whole, differ-front}
 use Rattle.angles.specs.Angles.{degreesOf, eitherLetter, isSide}
 use Rattle.angles.specs.declared.Axis.{Axis}
 use Rattle.fields.specs.declared.Angle.{Angle}
@@ -22,7 +22,7 @@ use Rattle.fields.specs.declared.Due.the-variants as due
 use Rattle.due.specs.Due.{dueAngle, dueText, dueWidth, mayEnd}
 use Rattle.due.specs.declared.Basis.{Basis}
 use Rattle.due.proofs.DueBytes.{due-bytes}
-use Rattle.due.proofs.DueWidths.{length-due}
+use Rattle.due.proofs.DueWidths.{as-long}
 use Rattle.rules.specs.Asked.{BasisInRange}
 use Rattle.rules.specs.Rules.{dueHolds}
 use Rattle.rules.proofs.DueHolds.{due-holds}
@@ -57,21 +57,14 @@ module _ (k : Due) (b : Basis) (r : BasisInRange b) (letter : b .letter < 256) (
   abbrev want : List ℕ
   want = dueText k b
 
-  as-long : length want ≡ length t
-  as-long = length-due k b ∙ sym wide
-
   -- all that is due stands
   whole : differ t 0 want ≡ length t → Bytes t
-  whole e =
-      let long = as-long in
-      let there = has-part t 0 want (omega arith) (eq-eqb (differ t 0 want) (length want) (e ∙ sym long)) in
-      let is : want ≡ t = sym there ∙ take-all (length want) t (omega arith) in
-      subst Bytes is (due-bytes k b letter)
+  whole e = subst Bytes (sym (text-whole t want (as-long k b t wide) e)) (due-bytes k b letter)
 
   -- or all but the last byte
   but-last : suc (differ t 0 want) ≡ length t → mayEnd k b (getD t (length t - 1) 0) ≡ true → Bytes t
   but-last e last i =
-      let long = as-long in
+      let long = as-long k b t wide in
       let n = differ t 0 want in
       by-order n i
       (λ h.
