@@ -23,9 +23,9 @@
 #include <assert.h>
 #endif
 
-#define DTED_VERSION "0.3.0"
+#define DTED_VERSION "0.4.0"
 #define DTED_VERSION_MAJOR 0
-#define DTED_VERSION_MINOR 3
+#define DTED_VERSION_MINOR 4
 #define DTED_VERSION_PATCH 0
 
 /* The compiler says where an answer is dropped: it alone tells whether anything was done. */

@@ -1,4 +1,4 @@
--- Under the headers of an accepted cell, the column writer makes the cell's own bytes from the cell's posts (rule X2).
+-- Under the headers of an accepted cell, the column writer makes the cell's own bytes from the posts of a column with plain words (rule X2).
 use Prim.Native.Nat.{ℕ, _<_, _≤_}
 use native.Mathlib.Omega.{arith}
 use mathlib.Core.Path.{_≡_, refl, sym, ap, _∙_}
@@ -19,7 +19,7 @@ use Rattle.layout.specs.Zones.{edgeOf}
 use Rattle.headers.specs.Judged.{factsIn, frameIn}
 use Rattle.layout.proofs.NearEdges.{edge-below}
 use Rattle.headers.proofs.FirstFour.{level-below}
-use Rattle.columns.specs.Column.{columnOf, wordsIn, heightsIn}
+use Rattle.columns.specs.Column.{columnOf, wordsIn, heightsIn, Plain}
 use Rattle.columns.proofs.ColumnWords.{good-allowed}
 use Rattle.columns.proofs.ColumnHeights.{Held, length-heights, said-held}
 use Rattle.sources.specs.Heights.{numbers}
@@ -70,14 +70,14 @@ module _ (s : List ℕ) (cell : Cell s) (k : ℕ) (h : k < frameIn s .grid .colu
         (then-rest Done (l .level) (omega (arith, l .columns))
         (fine (n ∙ sym (l .posts)) (λ i u. column-held i (omega (arith, l .posts))) (omega (arith, l .bytes))))
 
-    pub byte-return : Bytes s
+    pub byte-return : Bytes s → Plain (wordsIn (columnAt s (frameIn s .grid) k) (frameIn s .grid .posts))
         → columnOutput (frameIn s .grid .level) k (heightsIn (columnAt s (frameIn s .grid) k) (frameIn s .grid .posts)) out
         ≡ columnAt s (frameIn s .grid) k ++ drop (frameIn s .grid .bytes .column) out
     unfolding columnOutput
-    byte-return bytes =
+    byte-return bytes plain =
         let g = frameIn s .grid in
         let zs = heightsIn (columnAt s g k) (g .posts) in
         let long : length (columnAt s g k) ≡ g .bytes .column = cell .framed .columns k h .long ∙ sym (cell-facts s cell .grid .column) in
         ap (λ (o : Outcome). outputAfter o (columnOf k zs) out) return-done
-        ∙ ap (λ (c : List ℕ). c ++ drop (length c) out) (column-afresh s bytes cell k h)
+        ∙ ap (λ (c : List ℕ). c ++ drop (length c) out) (column-afresh s bytes cell k h plain)
         ∙ ap (λ (n : ℕ). columnAt s g k ++ drop n out) long

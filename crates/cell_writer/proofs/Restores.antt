@@ -1,7 +1,7 @@
 -- Write then read restores everything (rule D2): the cell is accepted, and gives back its description, its grid and each post.
 use Prim.Native.Nat.{ℕ, _+_, _*_, _<_}
 use native.Mathlib.Omega.{arith}
-use mathlib.Core.Path.{_≡_, ap, _∙_}
+use mathlib.Core.Path.{_≡_, sym, ap, subst, _∙_}
 use mathlib.Core.Bool.{true}
 use mathlib.Core.List.{List, map}
 use lib.IntN.{ℤ, pos}
@@ -19,9 +19,10 @@ use Rattle.description.specs.declared.Description.{Description}
 use Rattle.description.specs.declared.Described.the-variants.{As}
 use Rattle.header_writer.specs.Written.{headersFor}
 use Rattle.header_writer.proofs.WrittenGood.{written-described}
-use Rattle.columns.specs.Column.{wordsOf}
-use Rattle.columns.proofs.ColumnHeights.{Held, said-back}
+use Rattle.columns.specs.Column.{wordsOf, Plain}
+use Rattle.columns.proofs.ColumnHeights.{Held, words-plain, said-back}
 use Rattle.cells.specs.Cell.{Cell}
+use Rattle.cells.specs.Words.{wordsOfCell}
 use Rattle.cells.specs.Grid.{heightAt, columnsWritten, gridIn}
 use Rattle.cells.proofs.FramedWords.{Made}
 use Rattle.cells.proofs.MadeCells.{made-frame, made-cell, made-words}
@@ -51,6 +52,12 @@ module _ (d : Description) (e : inRange d ≡ true) (zs : List ℤ) (all : lengt
   pub restored-accepted : taken (cellOf d zs) ≡ accepted (frameFor d .grid .level) (frameFor d .grid .columns) (frameFor d .grid .posts)
   restored-accepted =
       cell-accepted (cellOf d zs) written-cell ∙ ap (λ (f : Frame). accepted (f .grid .level) (f .grid .columns) (f .grid .posts)) written-frame
+
+  -- and holds no second word of height 0
+  pub written-plain : Plain (wordsOfCell (cellOf d zs))
+  unfolding cellOf
+  written-plain =
+      subst Plain (sym (made-words (frameFor d) (headersFor d) (wordsOf zs) (written-headed d e) made)) (words-plain (frameFor d .voids) zs held)
 
   pub restored-grid : gridIn (cellOf d zs) ≡ zs
   unfolding cellOf

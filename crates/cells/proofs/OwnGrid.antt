@@ -1,24 +1,26 @@
--- A cell's own posts as a grid: how many there are, what each says, and the cell written afresh from them (rules X2 and D3).
+-- A cell's own posts as a grid: how many there are, what each says, and a cell of plain words written afresh from them (rules X2 and D3).
 use Prim.Native.Nat.{ℕ, _+_, _*_, _<_}
 use native.Mathlib.Omega.{arith}
-use mathlib.Core.Path.{_≡_, ap, _∙_}
+use mathlib.Core.Path.{_≡_, sym, ap, subst, _∙_}
 use mathlib.Core.List.{List}
 use lib.IntN.{pos}
-use lib.ListN.{length, take, length-map}
+use lib.ListN.{length, getD, take, length-map}
 use Rattle.octets.specs.Numbers.{Bytes}
-use Rattle.octets.proofs.JoinedLaws.{part-within}
+use Rattle.octets.proofs.JoinedLaws.{length-listed, part-within, part-each}
 use Rattle.octets.proofs.ListLaws.{mapped}
 use Rattle.octets.proofs.PartLaws.{part-bytes}
 use Rattle.layout.specs.Grid.{headerBytes}
-use Rattle.posts.specs.Heights.{saidBy}
+use Rattle.posts.specs.Words.{negativeZero}
+use Rattle.posts.specs.Heights.{wordOf, saidBy}
 use Rattle.headers.specs.Judged.{frameIn}
-use Rattle.columns.specs.Column.{columnOfWords, wordsOf, columnOf, wordIn, wordsIn, heightsIn}
+use Rattle.columns.specs.Column.{columnOfWords, wordsOf, columnOf, wordIn, wordsIn, heightsIn, Plain}
 use Rattle.columns.proofs.ColumnWords.{good-allowed, column-is}
-use Rattle.columns.proofs.ColumnHeights.{words-written}
+use Rattle.columns.proofs.ColumnHeights.{said-held, words-allowed, words-written, written-plain}
 use Rattle.cells.specs.Cell.{startOf, columnAt, Cell}
-use Rattle.cells.specs.Words.{cellOfWords, wordsOfCell}
+use Rattle.cells.specs.Words.{cellOfWords, wordsUnder, wordsOfCell}
 use Rattle.cells.specs.Grid.{heightAt, afresh, gridIn}
-use Rattle.cells.proofs.ColumnParts.{length-under, word-under}
+use Rattle.cells.proofs.ColumnParts.{length-under, part-under, word-under}
+use Rattle.cells.proofs.FramedWords.{Made, words-there}
 use Rattle.cells.proofs.MadeCells.{cell-made, cell-remade}
 
 module _ (s : List ℕ) where
@@ -32,20 +34,44 @@ module _ (s : List ℕ) where
       let w = part-within c (g .columns) (g .posts) hc in
       mapped saidBy (wordsOfCell s) (c * g .posts + p) 0 (pos 0) (omega (arith, length-under g s)) ∙ ap saidBy (word-under g s c p hc hp)
 
+  -- where all words are plain, those of each column are
+  pub column-plain : Plain (wordsOfCell s) → (k : ℕ) → k < frameIn s .grid .columns
+      → Plain (wordsIn (columnAt s (frameIn s .grid) k) (frameIn s .grid .posts))
+  column-plain plain k h i u =
+      let g = frameIn s .grid in
+      let c = columnAt s g k in
+      let n = length-listed (wordIn c) (g .posts) in
+      subst (λ (ws : List ℕ). getD ws i 0 ≡ negativeZero → ⊥) (part-under g s k h)
+      (part-each (g .posts) (λ w. w ≡ negativeZero → ⊥) (wordsOfCell s) (g .columns) 0 (λ j v. plain j (omega (arith, length-under g s))) k h i (omega arith))
+
 module _ (s : List ℕ) (bytes : Bytes s) (cell : Cell s) where
-  -- the words that are written for its posts are its words: every word of it is the writer's
-  pub own-words : wordsOf (gridIn s) ≡ wordsOfCell s
+  -- the words that are written for its posts are its words, where they are plain
+  pub own-words : Plain (wordsOfCell s) → wordsOf (gridIn s) ≡ wordsOfCell s
   own-words = words-written (frameIn s .voids) (wordsOfCell s) (cell-made s cell .allowed)
 
-  pub cell-afresh : afresh (take headerBytes s) (frameIn s .grid) (gridIn s) ≡ s
-  cell-afresh = ap (cellOfWords (take headerBytes s) (frameIn s .grid)) own-words ∙ cell-remade s cell bytes
+  pub cell-afresh : Plain (wordsOfCell s) → afresh (take headerBytes s) (frameIn s .grid) (gridIn s) ≡ s
+  cell-afresh plain = ap (cellOfWords (take headerBytes s) (frameIn s .grid)) (own-words plain) ∙ cell-remade s cell bytes
+
+  -- and only there
+  pub afresh-plain : afresh (take headerBytes s) (frameIn s .grid) (gridIn s) ≡ s → Plain (wordsOfCell s)
+  afresh-plain same =
+      let f = frameIn s in
+      let made = cell-made s cell in
+      let written : Made f (take headerBytes s) (wordsOf (gridIn s)) = record {
+        range = made .range;
+        front = made .front;
+        all = length-map (gridIn s) wordOf ∙ length-grid s;
+        allowed = words-allowed (f .voids) (gridIn s) (said-held (f .voids) (wordsOfCell s) (made .allowed));
+      } in
+      written-plain (f .voids) (wordsOfCell s) (made .allowed)
+      (sym (words-there f (take headerBytes s) (wordsOf (gridIn s)) written) ∙ ap (wordsUnder (f .grid)) same)
 
   -- a column written from its own posts
-  pub column-afresh : (k : ℕ) → k < frameIn s .grid .columns
+  pub column-afresh : (k : ℕ) → k < frameIn s .grid .columns → Plain (wordsIn (columnAt s (frameIn s .grid) k) (frameIn s .grid .posts))
       → columnOf k (heightsIn (columnAt s (frameIn s .grid) k) (frameIn s .grid .posts)) ≡ columnAt s (frameIn s .grid) k
-  column-afresh k h =
+  column-afresh k h plain =
       let g = frameIn s .grid in
       let c = columnAt s g k in
       let good = cell .framed .columns k h in
-      ap (columnOfWords k) (words-written (frameIn s .voids) (wordsIn c (g .posts)) (good-allowed c k (g .posts) (frameIn s .voids) good))
+      ap (columnOfWords k) (words-written (frameIn s .voids) (wordsIn c (g .posts)) (good-allowed c k (g .posts) (frameIn s .voids) good) plain)
       ∙ column-is c k (g .posts) (part-bytes s (startOf g k) (g .bytes .column) bytes) (good .long) (good .right)

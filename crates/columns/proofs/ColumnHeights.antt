@@ -1,7 +1,7 @@
--- Columns and heights, through the words: what was written is good and says its heights, and allowed words are the writer's.
+-- Columns and heights, through the words: what was written is good and says its heights, and plain words are the writer's.
 use Prim.Native.Nat.{ℕ, _<_, _≤_}
 use native.Mathlib.Omega.{arith}
-use mathlib.Core.Path.{_≡_, ap, _∙_}
+use mathlib.Core.Path.{_≡_, sym, ap, subst, _∙_}
 use mathlib.Core.Bool.{Bool, true}
 use mathlib.Core.List.{List, map}
 use lib.IntN.{ℤ, pos}
@@ -11,8 +11,8 @@ use Rattle.octets.proofs.ListLaws.{mapped}
 use Rattle.octets.proofs.JoinedLaws.{length-listed, getD-listed}
 use Rattle.layout.specs.Levels.{columnBytes}
 use Rattle.posts.specs.Heights.{wordOf, saidBy, heightAllowed}
-use Rattle.posts.proofs.RoundTrip.{word-allowed, word-back, height-back, form-allowed}
-use Rattle.columns.specs.Column.{wordsOf, columnOf, wordIn, wordsIn, heightsIn, GoodColumn, Allowed}
+use Rattle.posts.proofs.RoundTrip.{word-allowed, word-back, never-negative, height-back, form-allowed}
+use Rattle.columns.specs.Column.{wordsOf, columnOf, wordIn, wordsIn, heightsIn, GoodColumn, Allowed, Plain}
 use Rattle.columns.proofs.ColumnWords.{length-column, words-good}
 
 -- each height may be held where voids are allowed or not
@@ -27,11 +27,16 @@ module _ (s : List ℕ) (posts : ℕ) where
   height-at i h =
       mapped saidBy (wordsIn s posts) i 0 (pos 0) (omega (arith, length-listed (wordIn s) posts)) ∙ ap saidBy (getD-listed (wordIn s) posts i 0 h)
 
--- the words of heights: each may be held, and each says its height
+-- the words of heights: each may be held, none is 8000 hex, and each says its height
 pub words-allowed : (voids : Bool) (zs : List ℤ) → Held voids zs → Allowed voids (wordsOf zs)
 words-allowed voids zs held i h =
     let u : i < length zs = omega (arith, length-map zs wordOf) in
     rw (mapped wordOf zs i (pos 0) 0 u) (word-allowed voids (getD zs i (pos 0)) (held i u))
+
+pub words-plain : (voids : Bool) (zs : List ℤ) → Held voids zs → Plain (wordsOf zs)
+words-plain voids zs held i h e =
+    let u : i < length zs = omega (arith, length-map zs wordOf) in
+    never-negative voids (getD zs i (pos 0)) (held i u) (sym (mapped wordOf zs i (pos 0) 0 u) ∙ e)
 
 -- each element changed there and back
 there-back : {A B : Type 0} (f : A → B) (g : B → A) (l : List A) (d : A) → ((i : ℕ) → i < length l → g (f (getD l i d)) ≡ getD l i d) → map g (map f l) ≡ l
@@ -59,6 +64,9 @@ module _ (k posts : ℕ) (voids : Bool) (zs : List ℤ) (long : length zs ≡ po
   pub written-good : k < 65536 → posts ≤ 8000000 → GoodColumn (columnOf k zs) k posts voids
   written-good small few = words-good k posts voids (wordsOf zs) small few (length-map zs wordOf ∙ long) (words-allowed voids zs held)
 
--- P6, and the one law here that rests on it: a word that a cell may hold is the writer's word of what it says
-pub words-written : (voids : Bool) (ws : List ℕ) → Allowed voids ws → wordsOf (map saidBy ws) ≡ ws
-words-written voids ws allowed = there-back saidBy wordOf ws 0 (λ i h. word-back voids (getD ws i 0) (allowed i h))
+-- P6, and the one law here that rests on it: plain words that a cell may hold are the writer's words of what they say, and no others are
+pub words-written : (voids : Bool) (ws : List ℕ) → Allowed voids ws → Plain ws → wordsOf (map saidBy ws) ≡ ws
+words-written voids ws allowed plain = there-back saidBy wordOf ws 0 (λ i h. word-back voids (getD ws i 0) (allowed i h) (plain i h))
+
+pub written-plain : (voids : Bool) (ws : List ℕ) → Allowed voids ws → wordsOf (map saidBy ws) ≡ ws → Plain ws
+written-plain voids ws allowed same = subst Plain same (words-plain voids (map saidBy ws) (said-held voids ws allowed))

@@ -1,23 +1,22 @@
 -- Columns and words: a column with its preamble and checksum right is the column of its words, and gives back the words that it was made of.
-use Prim.Native.Nat.{ℕ, zero, suc, _*_, _<_, _≤_}
+use Prim.Native.Nat.{ℕ, zero, suc, _+_, _*_, _<_, _≤_}
 use native.Mathlib.Omega.{arith}
 use mathlib.Core.Path.{_≡_, refl, sym, ap, _∙_}
 use mathlib.Core.Bool.{Bool}
 use mathlib.Core.List.{List, [], _∷_, _++_, append-assoc}
 use lib.Dec.{lit<}
 use lib.ListN.{length, getD, take, drop, length-append, length-drop, take-append-drop}
-use lib.Seq.{take-add, take-at, take-all, take-suc, take-length, take-append-seam, drop-drop}
+use lib.Seq.{take-add, take-at, take-all, take-suc, take-length, take-append-seam, drop-append-add}
 use Rattle.octets.specs.Numbers.{numberAt, bytesOf, bytesOfWords, Bytes}
-use Rattle.octets.specs.Parts.{listed}
 use Rattle.octets.specs.Sums.{sumOf}
-use Rattle.octets.proofs.JoinedLaws.{length-listed, getD-listed, listed-is, listed-same}
+use Rattle.octets.proofs.JoinedLaws.{length-listed, getD-listed, listed-is}
 use Rattle.octets.proofs.NumberLaws.{length-bytes, bytes-back}
-use Rattle.octets.proofs.WordLaws.{length-words, words-bytes, Fit, words-there, word-there}
+use Rattle.octets.proofs.WordLaws.{length-words, word-part, words-bytes, Fit, words-there, word-there}
 use Rattle.octets.proofs.SumLaws.{sum-bound}
 use Rattle.octets.proofs.FrontLaws.{Begins, begins-less, begins-read, begins-more, byte-below, bytes-join}
 use Rattle.layout.specs.Levels.{columnBytes}
 use Rattle.posts.proofs.RoundTrip.{allowed-fits}
-use Rattle.columns.specs.Column.{preamble, sealed, columnOfWords, sumAt, wordIn, wordsIn, Sealed, GoodColumn, Allowed}
+use Rattle.columns.specs.Column.{preamble, sealed, columnOfWords, wordAt, sumAt, wordIn, wordsIn, Sealed, GoodColumn, Allowed}
 
 pub length-preamble : (k : ℕ) → length (preamble k) ≡ 8
 unfolding preamble
@@ -88,6 +87,19 @@ module _ (k : ℕ) (ws : List ℕ) where
   begins-body : Begins (columnOfWords k ws) (preamble k ++ bytesOfWords ws)
   unfolding columnOfWords sealed
   begins-body = take-append-seam (body k ws) (bytesOf 4 (sumOf (body k ws)))
+
+  -- its preamble, and the two bytes of each post
+  pub preamble-front : take (wordAt 0) (columnOfWords k ws) ≡ preamble k
+  unfolding columnOfWords sealed
+  preamble-front =
+      ap (take (wordAt 0)) (append-assoc (preamble k) (bytesOfWords ws) (bytesOf 4 (sumOf (body k ws)))) ∙ take-at (preamble k) _ (wordAt 0) (length-preamble k)
+
+  pub post-bytes : (p : ℕ) → p < length ws → take 2 (drop (wordAt p) (columnOfWords k ws)) ≡ bytesOf 2 (getD ws p 0)
+  unfolding columnOfWords sealed
+  post-bytes p h =
+      let sum = bytesOf 4 (sumOf (body k ws)) in
+      let at : wordAt p ≡ length (preamble k) + 2 * p = omega (arith, length-preamble k) in
+      rw (at, append-assoc (preamble k) (bytesOfWords ws) sum, drop-append-add (preamble k) (bytesOfWords ws ++ sum) (2 * p)) (word-part ws sum p h)
 
   -- so many words have a checksum of four bytes
   pub column-sealed : k < 65536 → length ws ≤ 8000000 → Sealed (columnOfWords k ws) k (length ws)

@@ -9,7 +9,7 @@ use Rattle.octets.specs.Numbers.{numberAt, bytesOf, bytesOfWords}
 use Rattle.octets.specs.Sums.{sumOf}
 use Rattle.octets.specs.Parts.{listed}
 use Rattle.layout.specs.Levels.{columnBytes}
-use Rattle.posts.specs.Words.{wordAllowed}
+use Rattle.posts.specs.Words.{wordAllowed, negativeZero}
 use Rattle.posts.specs.Heights.{wordOf, saidBy}
 
 -- C1, C2: sentinel, block count, longitude count and latitude count of column k
@@ -74,3 +74,7 @@ pub record GoodColumn (s : List ℕ) (k posts : ℕ) (voids : Bool) : Type 0 whe
 -- P4: each of a list of words may stand where voids are allowed or not
 abbrev pub Allowed : Bool → List ℕ → Type 0
 Allowed voids ws = (i : ℕ) → i < length ws → wordAllowed voids (getD ws i 0) ≡ true
+
+-- P6: and none of them is the second word of height 0, so that each is the writer's
+abbrev pub Plain : List ℕ → Type 0
+Plain ws = (i : ℕ) → i < length ws → getD ws i 0 ≡ negativeZero → ⊥

@@ -1,5 +1,5 @@
--- X2 over the column writers' own promises, inner and exported: given the posts of a column of an accepted cell, a call is done and puts that
--- column's bytes; and the cell is its headers and the columns so put.
+-- X2 over the column writers' own promises, inner and exported: given the posts of a column of an accepted cell, a call is done, and puts that
+-- column's bytes where its words are plain; and the cell is its headers and the columns so put.
 use Prim.Native.Nat.{ℕ, _*_, _<_, _≤_}
 use native.Mathlib.Omega.{arith}
 use mathlib.Core.Path.{_≡_, sym, ap, _∙_}
@@ -21,9 +21,11 @@ use Rattle.layout.specs.Levels.{postsOf}
 use Rattle.layout.specs.Grid.{headerBytes}
 use Rattle.layout.specs.declared.Grid.{Grid}
 use Rattle.headers.specs.Judged.{factsIn}
-use Rattle.columns.specs.Column.{heightsIn}
+use Rattle.columns.specs.Column.{wordsIn, heightsIn, Plain}
 use Rattle.cells.specs.Cell.{columnAt, Cell}
+use Rattle.cells.specs.Words.{wordsOfCell}
 use Rattle.cells.proofs.MadeCells.{cell-facts}
+use Rattle.cells.proofs.OwnGrid.{column-plain}
 use Rattle.column_writer.specs.Column.{columnTold, columnOutput}
 use Rattle.sources.specs.Heights.{heightsInBytes}
 use Rattle.host_writers.proofs.AsHeights.{column-same}
@@ -45,45 +47,49 @@ module _ (l : List ℕ) (cell : Cell l) (bytes : Bytes l) where
     pub own : posts ≡ heightsIn (columnAt l (factsIn l .grid) number) (factsIn l .grid .posts)
     pub room : factsIn l .grid .bytes .column ≤ length out
 
-  -- and left the column at the front of the output, the rest as it was
+  -- the column at the front of the output, the rest as it was
   abbrev pub putBack : ℕ → List ℕ → List ℕ
   putBack k out = columnAt l (factsIn l .grid) k ++ drop (factsIn l .grid .bytes .column) out
 
+  -- what is left is that, where the words of column k are plain
+  abbrev pub Returned : ℕ → List ℕ → List ℕ → Type 0
+  Returned k out left = Plain (wordsIn (columnAt l (factsIn l .grid) k) (factsIn l .grid .posts)) → left ≡ putBack k out
+
   returned : (level number : ℕ) (posts : List ℤ) (out : List ℕ) → OwnPosts level number posts out
-      → (columnTold level number posts out ≡ told act Done) × (columnOutput level number posts out ≡ putBack number out)
+      → (columnTold level number posts out ≡ told act Done) × Returned number out (columnOutput level number posts out)
   unfolding columnTold
   returned level number posts out own =
-      rw (own .of-level, own .own) (ap (told act) (return-done l cell number (own .column) out (own .room)), byte-return l cell number (own .column) out (own .room) bytes)
+      rw (own .of-level, own .own) (ap (told act) (return-done l cell number (own .column) out (own .room)), λ plain. byte-return l cell number (own .column) out (own .room) bytes plain)
 
   -- the column writer over heights
   pub column-returned : (κs : L.Lfts 2) (a : K.Dens κs write-column-kinds.ps) (r : _) (s : _) → write-column.Post κs a r s
-      → OwnPosts (a .1 .0) (a .1 .1 .0) (now (a .1 .1 .1 .0)) (now (a .0)) → (r ≡ Done) × (now (s .0) ≡ putBack (a .1 .1 .0) (now (a .0)))
+      → OwnPosts (a .1 .0) (a .1 .1 .0) (now (a .1 .1 .1 .0)) (now (a .0)) → (r ≡ Done) × Returned (a .1 .1 .0) (now (a .0)) (now (s .0))
   column-returned κs a r s kept own =
       let it = returned (a .1 .0) (a .1 .1 .0) (now (a .1 .1 .1 .0)) (now (a .0)) own in
-      (told-injective act r Done (kept .0 ∙ it .0), kept .1 ∙ it .1)
+      (told-injective act r Done (kept .0 ∙ it .0), λ plain. kept .1 ∙ it .1 plain)
 
   -- and the exported one, over bytes: as many as the column's posts, and the same heights
   pub host-column-returned : (κs : L.Lfts 2) (a : K.Dens κs host-write-column-kinds.ps) (r : _) (s : _) → host-write-column.Post κs a r s
       → length (now (a .1 .1 .1 .0)) ≡ 2 * factsIn l .grid .posts → OwnPosts (a .1 .0) (a .1 .1 .0) (heightsInBytes (now (a .1 .1 .1 .0))) (now (a .0))
-      → (r ≡ 0) × (now (s .0) ≡ putBack (a .1 .1 .0) (now (a .0)))
+      → (r ≡ 0) × Returned (a .1 .1 .0) (now (a .0)) (now (s .0))
   host-column-returned κs a r s kept long own =
       let given = now (a .1 .1 .1 .0) in
       let out = now (a .0) in
       let it = returned (a .1 .0) (a .1 .1 .0) (heightsInBytes given) out own in
       let due = ap (λ (n : ℕ). 2 * n) (sym (cell-of-level l cell .posts)) ∙ ap (λ (v : ℕ). 2 * postsOf v) (sym (own .of-level)) in
       let same = column-same (a .1 .0) (a .1 .1 .0) given out (long ∙ due) in
-      (kept .0 ∙ ap packed (same .0 ∙ it .0) ∙ done-0, kept .1 ∙ same .1 ∙ it .1)
+      (kept .0 ∙ ap packed (same .0 ∙ it .0) ∙ done-0, λ plain. kept .1 ∙ same .1 ∙ it .1 plain)
 
-  -- the front of what each call left, behind the cell's headers: the cell
-  pub cell-returned : (left out : ℕ → List ℕ) → ((k : ℕ) → k < factsIn l .grid .columns → left k ≡ putBack k (out k))
+  -- of a cell of plain words, the front of what each call left, behind the cell's headers: the cell
+  pub cell-returned : Plain (wordsOfCell l) → (left out : ℕ → List ℕ) → ((k : ℕ) → k < factsIn l .grid .columns → Returned k (out k) (left k))
       → take headerBytes l ++ joined (λ (k : ℕ). take (factsIn l .grid .bytes .column) (left k)) (factsIn l .grid .columns) ≡ l
-  cell-returned left out put =
+  cell-returned plain left out put =
       let size = g .bytes .column in
       let in-range = cell-facts l cell .grid in
       let all =
       joined-all size (λ (k : ℕ). take size (left k)) (drop headerBytes l) (g .columns) (rw length-drop (omega (arith, cell .framed .long, in-range .cell)))
       (λ k h.
       let long = cell .framed .columns k h .long ∙ sym (in-range .column) in
-      ap (take size) (put k h) ∙ take-at (columnAt l g k) (drop size (out k)) size long ∙ ap (take size) (sym (drop-drop (k * size) headerBytes l)))
+      ap (take size) (put k h (column-plain l plain k h)) ∙ take-at (columnAt l g k) (drop size (out k)) size long ∙ ap (take size) (sym (drop-drop (k * size) headerBytes l)))
       in
       rw all (take-append-drop headerBytes l)

@@ -1,7 +1,7 @@
--- D3 for any call that edits, whatever its answers are: a sequence of calls leaves the headers and the columns of the edited words, which are the
--- columns written afresh from the edited posts.
+-- D3 for any call that edits, whatever its answers are: a sequence of calls leaves the old bytes with the edited words and the checksums of their
+-- columns replaced, which in a cell of plain words are the headers and the columns written afresh from the edited posts.
 use Prim.Native.Nat.{ℕ}
-use mathlib.Core.Path.{_≡_, refl, sym, ap, _∙_}
+use mathlib.Core.Path.{_≡_, refl, sym, ap, subst, _∙_}
 use mathlib.Core.Bool.{Bool}
 use mathlib.Core.List.{List, [], _∷_, map}
 use lib.ListN.{take}
@@ -9,6 +9,7 @@ use Rattle.octets.specs.Numbers.{Bytes}
 use Rattle.layout.specs.Grid.{headerBytes}
 use Rattle.layout.specs.declared.Frame.{Frame}
 use Rattle.headers.specs.Judged.{frameIn}
+use Rattle.columns.specs.Column.{Plain}
 use Rattle.cells.specs.Cell.{Cell}
 use Rattle.cells.specs.Words.{cellOfWords, wordsOfCell}
 use Rattle.cells.specs.Grid.{afresh, gridIn}
@@ -16,9 +17,11 @@ use Rattle.cells.proofs.FramedWords.{Made}
 use Rattle.cells.proofs.MadeCells.{Headed, made-cell, made-frame, cell-headed, cell-made, cell-remade}
 use Rattle.edit.specs.Edit.{edited}
 use Rattle.edit.specs.Sequence.{Call, takes, afterEdits, wordsWith, wordsAfter, gridAfter}
+use Rattle.edit.specs.Replaced.{doneAmong, withReplaced}
 use Rattle.edit.proofs.FrameEdits.{with-made}
 use Rattle.edit.proofs.EditWords.{edit-words, edits-left, edits-cell}
-use Rattle.edit.proofs.AfterEdits.{edits-grid, edits-afresh}
+use Rattle.edit.proofs.EditsReplaced.{edits-replaced}
+use Rattle.edit.proofs.AfterEdits.{edits-grid, edits-plain, edits-afresh}
 
 module _ {A : Type 0} (isDone : A → Bool) where
   -- calls take bytes to bytes with these answers: each leaves what an edit leaves, and of a cell answers done exactly where it takes
@@ -27,11 +30,15 @@ module _ {A : Type 0} (isDone : A → Bool) where
     call : {es : List Call} {rs : List A} {l' : List ℕ} (l m : List ℕ) (e : Call) (r : A)
         → m ≡ edited l (e .column) (e .post) (e .height) → (Cell l → isDone r ≡ takes (frameIn l) e) → Chain m es rs l' → Chain l (e ∷ es) (r ∷ rs) l'
 
-  -- what they leave and answer: the headers and the columns of the edited words, the edited posts, and done exactly where a call takes
+  -- what they leave and answer, done exactly where a call takes
   pub record Left (l : List ℕ) (es : List Call) (rs : List A) (l' : List ℕ) : Type 0 where
+    -- the old bytes, with each edited word and its column's checksum replaced; the same as the headers and the columns of the edited words
+    pub replaced : l' ≡ withReplaced (frameIn l .grid) l (doneAmong es (map isDone rs))
     pub words : l' ≡ cellOfWords (take headerBytes l) (frameIn l .grid) (wordsAfter (frameIn l) (wordsOfCell l) es)
     pub grid : gridIn l' ≡ gridAfter (frameIn l) (gridIn l) es
-    pub bytes : l' ≡ afresh (take headerBytes l) (frameIn l .grid) (gridAfter (frameIn l) (gridIn l) es)
+    -- of plain words: the columns written afresh from the edited posts, and the words are plain again
+    pub bytes : Plain (wordsOfCell l) → l' ≡ afresh (take headerBytes l) (frameIn l .grid) (gridAfter (frameIn l) (gridIn l) es)
+    pub plain : Plain (wordsOfCell l) → Plain (wordsOfCell l')
     pub cell : Cell l'
     pub answers : map isDone rs ≡ map (takes (frameIn l)) es
 
@@ -57,11 +64,15 @@ module _ {A : Type 0} {isDone : A → Bool} where
   pub chain-left : (l l' : List ℕ) (es : List Call) (rs : List A) → Chain isDone l es rs l' → Cell l → Bytes l → Left isDone l es rs l'
   chain-left l l' es rs chain cell bytes =
       let same = chain-bytes chain in
+      let answered =
+      chain-answered (frameIn l) (take headerBytes l) (cell-headed l cell) chain (wordsOfCell l) (cell-made l cell) (sym (cell-remade l cell bytes))
+      in
       record {
+        replaced = same ∙ edits-replaced l cell bytes es ∙ ap (λ (ds : List Bool). withReplaced (frameIn l .grid) l (doneAmong es ds)) (sym answered);
         words = same ∙ edits-left l cell bytes es;
         grid = ap gridIn same ∙ edits-grid l cell bytes es;
-        bytes = same ∙ edits-afresh l cell bytes es;
+        bytes = λ plain. same ∙ edits-afresh l cell bytes es plain;
+        plain = λ plain. subst (λ (x : List ℕ). Plain (wordsOfCell x)) (sym same) (edits-plain l cell bytes es plain);
         cell = rw same (edits-cell l cell bytes es);
-        answers =
-            chain-answered (frameIn l) (take headerBytes l) (cell-headed l cell) chain (wordsOfCell l) (cell-made l cell) (sym (cell-remade l cell bytes));
+        answers = answered;
       }

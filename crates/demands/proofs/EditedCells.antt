@@ -1,4 +1,4 @@
--- Demand 3 over the edit's own promise (rule D3): calls that keep it, in any sequence, leave the cell with the edited words, written afresh from the edited posts.
+-- Demand 3 over the edit's own promise (rule D3): calls that keep it, in any sequence, leave the old bytes with the edited words and their checksums replaced.
 use Prim.Native.Nat.{ℕ}
 use mathlib.Core.Path.{_≡_, refl, sym, ap}
 use mathlib.Core.Bool.{Bool, true, false}

@@ -5,7 +5,8 @@ use Rattle.layout.specs.Levels.{latitudeInterval, postsOf}
 use Rattle.layout.specs.Zones.{edgeOf, factorAmong, factorOf}
 use Rattle.layout.specs.Grid.{longitudeInterval, columnsOf, cellBytes, gridOf}
 use Rattle.octets.specs.Numbers.{bytesOfWords}
-use Rattle.octets.specs.Places.{places}
+use Rattle.octets.specs.Places.{places, value}
+use Rattle.octets.specs.Parts.{listed}
 use Rattle.octets.specs.Sums.{sumOf}
 use Rattle.octets.specs.Pastes.{pasted}
 use Rattle.columns.specs.Column.{preamble, sealed, columnOfWords}
@@ -18,9 +19,9 @@ use Rattle.dted.specs.Grid.{fromSouth}
 use Rattle.demands.specs.Marked.{Example, table, made, inputs, answers}
 
 pub marked : map made inputs ≡ answers
-unfolding made fromSouth factorAmong factorOf latitudeInterval postsOf longitudeInterval columnsOf cellBytes gridOf edgeOf southWest heightOf postOf inRange wordAllowed wordOf places sumOf preamble bytesOfWords sealed columnOfWords pasted stored storedIn
+unfolding made fromSouth factorAmong factorOf latitudeInterval postsOf longitudeInterval columnsOf cellBytes gridOf edgeOf southWest heightOf postOf inRange wordAllowed wordOf places value listed sumOf preamble bytesOfWords sealed columnOfWords pasted stored storedIn
 marked = refl
 
 -- and none is missing: the marks of the table's rows
-pub all-marked : map (λ (e : Example). e .mark) table ≡ 1 ∷ 1 ∷ 2 ∷ 2 ∷ 3 ∷ 4 ∷ 5 ∷ 5 ∷ 6 ∷ 6 ∷ 7 ∷ 7 ∷ 8 ∷ 8 ∷ 9 ∷ 10 ∷ 11 ∷ 12 ∷ []
+pub all-marked : map (λ (e : Example). e .mark) table ≡ 1 ∷ 1 ∷ 2 ∷ 2 ∷ 3 ∷ 4 ∷ 5 ∷ 5 ∷ 6 ∷ 6 ∷ 7 ∷ 7 ∷ 8 ∷ 8 ∷ 9 ∷ 10 ∷ 11 ∷ 12 ∷ 13 ∷ 14 ∷ 15 ∷ 16 ∷ []
 all-marked = refl

@@ -19,11 +19,13 @@ use Rattle.lookup.specs.Lookup.{heightSaid, lookedUp}
 use Rattle.cell_writer.specs.Cell.{postsDue, frameFor, cellOf}
 use Rattle.column_writer.specs.Judged.{outputAfter}
 use Rattle.cells.specs.Grid.{heightAt}
-use Rattle.cell_writer.proofs.Restores.{restored-description, restored-accepted, restored-post}
+use Rattle.cell_writer.proofs.Restores.{written-plain, restored-description, restored-accepted, restored-post}
 use Rattle.sources.specs.Heights.{inBytes, heightsInBytes}
 use Rattle.sources.proofs.HeightLaws.{counted, heights-counted, height-listed}
 use Rattle.posts.specs.Heights.{heightAllowed}
+use Rattle.columns.specs.Column.{Plain}
 use Rattle.columns.proofs.ColumnHeights.{Held}
+use Rattle.cells.specs.Words.{wordsOfCell}
 use Rattle.host_items.specs.Items.{itemIn, descriptionOf, numbersOf}
 use Rattle.host_writers.specs.Cell.{judgedBytes, bytesTold, bytesOutput}
 use Rattle.host_writers.proofs.BytesExactly.{Ready, ready}
@@ -72,6 +74,10 @@ module _ (κs : L.Lfts 3) (a : K.Dens κs write-kinds.ps) (r : _) (s : _) (kept 
   pub written : now (s .0) ≡ cell ++ drop (length cell) (now (a .0))
   unfolding bytesOutput
   written = kept .1 ∙ ap (λ (x : Outcome). outputAfter x cell (now (a .0))) accepted-call
+
+  -- none of their words is the second word of height 0
+  pub plain : Plain (wordsOfCell cell)
+  plain = written-plain (descriptionOf items) (in-range items (fine .numbers)) heights all held
 
   pub taken-back : (κs' : L.Lfts 1) (b : K.Dens κs' intake-kinds.ps) (q : _) (t : _) → now (b .0) ≡ cell → intake.Post κs' b q t
       → q ≡ packed (accepted (frameFor (descriptionOf items) .grid .level) (frameFor (descriptionOf items) .grid .columns) (frameFor (descriptionOf items) .grid .posts))

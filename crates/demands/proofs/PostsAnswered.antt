@@ -1,9 +1,10 @@
 -- D2 and L2 over the lookups' own promises, inner and exported: each post of an accepted cell is answered as what its word says, one height in
--- range or void, by its number and by a position; and the headers and the post's column alone decide.
+-- range or void, by its number and by a position, and 0 where 8000 hex stands; and the headers and the post's column alone decide.
 use Prim.Native.Nat.{ℕ, _/_, _%_, _<_, _≤_}
 use mathlib.Core.Path.{_≡_, sym, ap, subst, _∙_}
+use mathlib.Core.Bool.{true}
 use mathlib.Core.List.{List}
-use lib.IntN.{ℤ}
+use lib.IntN.{ℤ, pos}
 use lib.ListN.{length, take}
 use contract.Lifetimes as L
 use denote.Ref.{now}
@@ -14,9 +15,10 @@ use Rattle.answers.proofs.Injective.{told-injective}
 use Rattle.host_answers.specs.Packed.{packed}
 use Rattle.host_answers.specs.Apart.{toldIn}
 use Rattle.layout.specs.Grid.{headerBytes}
-use Rattle.posts.specs.Words.{postOf}
+use Rattle.posts.specs.Words.{postOf, negativeZero}
 use Rattle.posts.specs.declared.Post.{Post}
-use Rattle.posts.proofs.Readings.{Reads}
+use Rattle.posts.specs.declared.Post.the-variants.{Height}
+use Rattle.posts.proofs.Readings.{Reads, negative-zero}
 use Rattle.headers.specs.Judged.{factsIn, voidsAllowed}
 use Rattle.headers.proofs.Exactly.{follows-good}
 use Rattle.columns.specs.Column.{wordIn}
@@ -41,14 +43,18 @@ use Rattle.dted.proofs.cells.dted_position.Reads as host-position
 use Rattle.dted.proofs.cells.dted_position.Kinds as host-position-kinds
 use Rattle.demands.proofs.HostTold.{post-told, position-told}
 
--- what the word says that stands there
+-- the word that stands there, and what it says
+abbrev pub storedAt : List ℕ → ℕ → ℕ → ℕ
+storedAt l c p = wordIn (columnAt l (factsIn l .grid) c) p
+
 abbrev pub postIn : List ℕ → ℕ → ℕ → Post
-postIn l c p = postOf (wordIn (columnAt l (factsIn l .grid) c) p)
+postIn l c p = postOf (storedAt l c p)
 
 -- that is told, and it is a height in range, or void where voids are allowed
 pub record Answered (l : List ℕ) (c p : ℕ) (t : Told) : Type 0 where
   pub reads : Reads (voidsAllowed (factsIn l)) (postIn l c p)
   pub said : t ≡ told telling.post (postReads (postIn l c p))
+  pub zero : storedAt l c p ≡ negativeZero → t ≡ telling.height (pos 0)
 
 -- so for the post nearest a position that lies so far north and east of the cell's corner
 pub record AnsweredNear (l : List ℕ) (north east : ℕ) (t : Told) : Type 0 where
@@ -57,12 +63,22 @@ pub record AnsweredNear (l : List ℕ) (north east : ℕ) (t : Told) : Type 0 wh
   pub on-grid : (column < factsIn l .grid .columns) × (number < factsIn l .grid .posts)
   pub reads : Reads (voidsAllowed (factsIn l)) (postIn l column number)
   pub said : t ≡ saidAt column number (postReads (postIn l column number))
+  pub zero : storedAt l column number ≡ negativeZero → t ≡ telling.heightAt column number (pos 0)
   pub by-column : (j : ℕ) → AsNear east (factsIn l .grid .interval .longitude) column j
   pub by-number : (j : ℕ) → AsNear north (factsIn l .grid .interval .latitude) number j
 
+zero-read : (l : List ℕ) (c p : ℕ) → storedAt l c p ≡ negativeZero → postIn l c p ≡ Height (pos 0)
+zero-read l c p e = ap postOf e ∙ negative-zero true .1
+
 post-answered-so : (l : List ℕ) → Cell l → (c p : ℕ) → c < factsIn l .grid .columns → p < factsIn l .grid .posts
     → Answered l c p (lookedUp l c p)
-post-answered-so l cell c p hc hp = record { reads = post-reads l cell c p hc hp; said = post-found l cell c p hc hp }
+post-answered-so l cell c p hc hp =
+    let found = post-found l cell c p hc hp in
+    record {
+      reads = post-reads l cell c p hc hp;
+      said = found;
+      zero = λ e. found ∙ ap (λ (x : Post). told telling.post (postReads x)) (zero-read l c p e);
+    }
 
 position-answered-so : (l : List ℕ) → Cell l → (latitude longitude : ℤ) (north east : ℕ)
     → northOf (factsIn l) latitude ≡ On north → eastOf (factsIn l) longitude ≡ On east → AnsweredNear l north east (located l latitude longitude)
@@ -77,12 +93,14 @@ position-answered-so l cell latitude longitude north east n e =
     let there =
     given l c p _ (good (record { headers = cell .headers; column = near .on-columns; post = near .on-posts }) whole (cell .framed .columns c (near .on-columns)))
     in
+    let found = near .answered ∙ ap (readAt c p) there in
     record {
       column = c;
       number = p;
       on-grid = (near .on-columns, near .on-posts);
       reads = post-reads l cell c p (near .on-columns) (near .on-posts);
-      said = near .answered ∙ ap (readAt c p) there;
+      said = found;
+      zero = λ z. found ∙ ap (λ (x : Post). saidAt c p (postReads x)) (zero-read l c p z);
       by-column = near .by-column;
       by-number = near .by-post;
     }
@@ -125,6 +143,13 @@ pub host-post-answered : (κs : L.Lfts 1) (a : K.Dens κs host-post-kinds.ps) (r
 host-post-answered κs a r s kept cell hc hp =
     subst (Answered (now (a .0)) (a .1 .0) (a .1 .1 .0)) (sym (post-told κs a r s kept))
     (post-answered-so (now (a .0)) cell (a .1 .0) (a .1 .1 .0) hc hp)
+
+-- and where 8000 hex stands the answer's bits are those of height 0
+pub host-post-zero : (κs : L.Lfts 1) (a : K.Dens κs host-post-kinds.ps) (r : _) (s : _) → host-post.Post κs a r s → Cell (now (a .0))
+    → a .1 .0 < factsIn (now (a .0)) .grid .columns → a .1 .1 .0 < factsIn (now (a .0)) .grid .posts
+    → storedAt (now (a .0)) (a .1 .0) (a .1 .1 .0) ≡ negativeZero → r ≡ 0x0002000000000000
+unfolding packed
+host-post-zero κs a r s kept cell hc hp e = kept ∙ ap packed (post-answered-so (now (a .0)) cell (a .1 .0) (a .1 .1 .0) hc hp .zero e)
 
 pub host-post-local : (κs κs' : L.Lfts 1) (a : K.Dens κs host-post-kinds.ps) (b : K.Dens κs' host-post-kinds.ps) (r q : _) (s t : _)
     → host-post.Post κs a r s → host-post.Post κs' b q t → a .1 .0 ≡ b .1 .0 → a .1 .1 .0 ≡ b .1 .1 .0

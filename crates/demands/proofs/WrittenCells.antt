@@ -27,9 +27,11 @@ use Rattle.cell_writer.specs.Cell.{frameFor, judgedCellWrite, cellOf, cellTold,
 use Rattle.column_writer.specs.Judged.{outputAfter}
 use Rattle.cells.specs.Grid.{heightAt}
 use Rattle.sources.specs.Heights.{numbers}
+use Rattle.columns.specs.Column.{Plain}
 use Rattle.columns.proofs.ColumnHeights.{Held}
+use Rattle.cells.specs.Words.{wordsOfCell}
 use Rattle.cell_writer.proofs.CellExactly.{Ready, ready}
-use Rattle.cell_writer.proofs.Restores.{restored-description, restored-accepted, restored-post}
+use Rattle.cell_writer.proofs.Restores.{written-plain, restored-description, restored-accepted, restored-post}
 use Rattle.cell_writer.proofs.write.Reads as write
 use Rattle.cell_writer.proofs.write.Kinds as write-kinds
 
@@ -59,6 +61,10 @@ module _ (κs : L.Lfts 2) (a : K.Dens κs write-kinds.ps) (r : _) (s : _) (kept 
   pub written : now (s .0) ≡ cell ++ drop (length cell) (now (a .0))
   unfolding cellOutput
   written = kept .1 ∙ ap (λ (x : Outcome). outputAfter x cell (now (a .0))) accepted-call
+
+  -- none of their words is the second word of height 0
+  pub plain : Plain (wordsOfCell cell)
+  plain = written-plain description (fine .ranged) grid (fine .fine .long) held
 
   -- intake of them accepts
   pub taken-back : (κs' : L.Lfts 1) (b : K.Dens κs' intake-kinds.ps) (q : _) (t : _) → now (b .0) ≡ cell → intake.Post κs' b q t

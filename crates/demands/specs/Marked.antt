@@ -1,4 +1,4 @@
--- The marked examples (rules M1 to M12): what is given, what it is, and what the definitions make of it.
+-- The marked examples (rules M1 to M16): what is given, what it is, and what the definitions make of it.
 use Prim.Native.Nat.{ℕ, _+_, _*_}
 use mathlib.Core.Bool.{true, false}
 use mathlib.Core.List.{List, [], _∷_, map}
@@ -7,7 +7,7 @@ use lib.ListN.{length, drop, replicate}
 use Rattle.octets.specs.Choice.{pick}
 use Rattle.layout.specs.Zones.{edgeOf}
 use Rattle.layout.specs.Grid.{longitudeInterval, columnsOf, cellBytes, gridOf}
-use Rattle.columns.specs.Column.{sealed, columnOf, wordAt, sumAt}
+use Rattle.columns.specs.Column.{sealed, columnOf, heightsIn, wordAt, sumAt}
 use Rattle.headers.specs.declared.Facts.{Facts}
 use Rattle.posts.specs.Words.{wordAllowed, postOf}
 use Rattle.posts.specs.declared.Post.{Post}
@@ -42,8 +42,10 @@ pub data Input : Type 0 where
   -- the checksum after these bytes, and of the column with this number and these heights
   checksum : List ℕ → Input
   column : ℕ → List ℤ → Input
-  -- a column of one post, these bytes and their checksum, whose post is edited to this height: its word then, and its checksum
-  edited : List ℕ → ℤ → Input
+  -- a column of so many posts, these bytes and their checksum, and its words with its checksum: once a post is edited to a height
+  edited : List ℕ → ℕ → ℕ → ℤ → Input
+  -- and as they are written afresh from what its posts then say
+  afresh : List ℕ → ℕ → ℕ → ℤ → Input
   -- the post nearest a position, in tenths north and east of an origin so many degrees north and east
   nearest : ℕ → ℕ → ℕ → ℕ → ℕ → Input
 
@@ -74,9 +76,13 @@ abbrev pub nearestIs : Facts → Within → Is
 nearestIs f (within.In k) = post (nearestColumn (f .grid) k) (nearestPost (f .grid) k)
 nearestIs f within.Off = refused
 
--- the one post of a column that begins where the bytes do
-abbrev pub onlyPost : Spot
-onlyPost = record { start = 0; posts = 1; voids = false; word = 0 }
+-- a post of a column that begins where the bytes do
+abbrev pub spotOf : ℕ → Spot
+spotOf posts = record { start = 0; posts = posts; voids = false; word = 0 }
+
+-- that column, with post p edited
+abbrev pub editedColumn : List ℕ → ℕ → ℕ → ℤ → List ℕ
+editedColumn body posts p z = storedIn (sealed body) (spotOf posts) p z
 
 -- what the definitions make of what is given
 unfoldable pub made : Input → Is
@@ -85,7 +91,8 @@ made (columns level latitude) = number (columnsOf level (edgeAt latitude))
 made (bytes level latitude) = number (cellBytes level (edgeAt latitude))
 made (checksum body) = octets (drop (length body) (sealed body))
 made (column k zs) = octets (drop (sumAt (length zs)) (columnOf k zs))
-made (edited body z) = octets (drop (wordAt 0) (storedIn (sealed body) onlyPost 0 z))
+made (edited body posts p z) = octets (drop (wordAt 0) (editedColumn body posts p z))
+made (afresh body posts p z) = octets (drop (wordAt 0) (columnOf 0 (heightsIn (editedColumn body posts p z) posts)))
 made (nearest level up right northward eastward) =
     nearestIs (cellAt level up right) (southWest (cellAt level up right) (pos (up * degree + northward)) (pos (right * degree + eastward)))
 made (word w) = pick (wordAllowed true w) (postIs (postOf w)) refused
@@ -102,6 +109,10 @@ m mark input is = record { mark = mark; input = input; is = is }
 -- the bytes of M9
 abbrev pub m9 : List ℕ
 m9 = 0xAA ∷ 0 ∷ 0 ∷ 0 ∷ 0 ∷ 0 ∷ 0 ∷ 0 ∷ 0x23 ∷ 0x28 ∷ []
+
+-- those of M14: column 0, its first post stored as 8000 hex
+abbrev pub sea : List ℕ
+sea = 0xAA ∷ 0 ∷ 0 ∷ 0 ∷ 0 ∷ 0 ∷ 0 ∷ 0 ∷ 0x80 ∷ 0 ∷ 0 ∷ 5 ∷ []
 
 abbrev pub table : List Example
 table =
@@ -120,9 +131,13 @@ table =
     ∷ m 8 (word 0x8001) (metres (negℤ (pos 1)))
     ∷ m 8 (word 0xFFFF) void
     ∷ m 9 (checksum m9) (octets (0 ∷ 0 ∷ 0 ∷ 0xF5 ∷ []))
-    ∷ m 10 (edited m9 (negℤ (pos 1))) (octets (0x80 ∷ 0x01 ∷ 0 ∷ 0 ∷ 1 ∷ 0x2B ∷ []))
+    ∷ m 10 (edited m9 1 0 (negℤ (pos 1))) (octets (0x80 ∷ 0x01 ∷ 0 ∷ 0 ∷ 1 ∷ 0x2B ∷ []))
     ∷ m 11 (column 300 (replicate 1201 (pos 0))) (octets (0 ∷ 0 ∷ 1 ∷ 4 ∷ []))
     ∷ m 12 (nearest 1 46 7 15 46) (post 2 0)
+    ∷ m 13 (word 0x8000) (metres (pos 0))
+    ∷ m 14 (edited sea 2 1 (pos 7)) (octets (0x80 ∷ 0 ∷ 0 ∷ 7 ∷ 0 ∷ 0 ∷ 1 ∷ 0x31 ∷ []))
+    ∷ m 15 (edited sea 2 0 (pos 0)) (octets (0 ∷ 0 ∷ 0 ∷ 5 ∷ 0 ∷ 0 ∷ 0 ∷ 0xAF ∷ []))
+    ∷ m 16 (afresh sea 2 1 (pos 7)) (octets (0 ∷ 0 ∷ 0 ∷ 7 ∷ 0 ∷ 0 ∷ 0 ∷ 0xB1 ∷ []))
     ∷ []
 
 -- what is given and what it is, row by row

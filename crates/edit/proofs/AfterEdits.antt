@@ -1,18 +1,19 @@
--- Edits and heights, through the words (rule D3): the grid after edits, and the columns written afresh from it.
+-- Edits and heights, through the words (rule D3): the grid after edits; plain words stay plain, and are the columns written afresh from that grid.
 use Prim.Native.Nat.{ℕ, _+_, _*_}
-use mathlib.Core.Path.{_≡_, refl, sym, ap, _∙_}
+use mathlib.Core.Path.{_≡_, refl, sym, ap, subst, _∙_}
 use mathlib.Core.List.{List, [], _∷_, map}
 use lib.IntN.{ℤ}
 use lib.ListN.{take, set}
 use Rattle.octets.specs.Numbers.{Bytes}
 use Rattle.octets.proofs.ChoiceLaws.{by-test}
-use Rattle.octets.proofs.JoinedLaws.{map-set}
+use Rattle.octets.proofs.JoinedLaws.{each-set, map-set}
 use Rattle.layout.specs.Grid.{headerBytes}
 use Rattle.layout.specs.declared.Frame.{Frame}
+use Rattle.posts.specs.Words.{negativeZero}
 use Rattle.posts.specs.Heights.{wordOf, saidBy}
-use Rattle.posts.proofs.RoundTrip.{height-back}
+use Rattle.posts.proofs.RoundTrip.{never-negative, height-back}
 use Rattle.headers.specs.Judged.{frameIn}
-use Rattle.columns.specs.Column.{wordsOf}
+use Rattle.columns.specs.Column.{wordsOf, Plain}
 use Rattle.cells.specs.Cell.{Cell}
 use Rattle.cells.specs.Words.{cellOfWords, wordsOfCell}
 use Rattle.cells.specs.Grid.{afresh, gridIn}
@@ -45,13 +46,30 @@ module _ (f : Frame) where
   said-after [] ws = refl
   said-after (e ∷ es) ws = said-after es (wordsWith f ws e) ∙ ap (λ (zs : List ℤ). gridAfter f zs es) (one-said ws e)
 
+  -- an edit puts no second word of height 0
+  one-plain : (ws : List ℕ) (e : Call) → Plain ws → Plain (wordsWith f ws e)
+  one-plain ws e plain =
+      by-test (takes f e)
+      (λ t. rw t
+      (each-set (λ w. w ≡ negativeZero → ⊥) ws (e .column * f .grid .posts + e .post) (wordOf (e .height)) 0
+      (never-negative (f .voids) (e .height) (taken f e t .held)) plain))
+      (λ t. rw t plain)
+
+  pub plain-after : (es : List Call) (ws : List ℕ) → Plain ws → Plain (wordsAfter f ws es)
+  unfolding wordsAfter
+  plain-after [] ws plain = plain
+  plain-after (e ∷ es) ws plain = plain-after es (wordsWith f ws e) (one-plain ws e plain)
+
 module _ (s : List ℕ) (cell : Cell s) (bytes : Bytes s) (es : List Call) where
   pub edits-grid : gridIn (afterEdits s es) ≡ gridAfter (frameIn s) (gridIn s) es
   edits-grid = ap (map saidBy) (edits-own s cell bytes es) ∙ said-after (frameIn s) es (wordsOfCell s)
 
+  pub edits-plain : Plain (wordsOfCell s) → Plain (wordsOfCell (afterEdits s es))
+  edits-plain plain = subst Plain (sym (edits-own s cell bytes es)) (plain-after (frameIn s) es (wordsOfCell s) plain)
+
   -- D3: where every word of the cell is the writer's
-  pub edits-afresh : afterEdits s es ≡ afresh (take headerBytes s) (frameIn s .grid) (gridAfter (frameIn s) (gridIn s) es)
-  edits-afresh =
+  pub edits-afresh : Plain (wordsOfCell s) → afterEdits s es ≡ afresh (take headerBytes s) (frameIn s .grid) (gridAfter (frameIn s) (gridIn s) es)
+  edits-afresh plain =
       edits-left s cell bytes es
       ∙ ap (cellOfWords (take headerBytes s) (frameIn s .grid))
-      (ap (λ (ws : List ℕ). wordsAfter (frameIn s) ws es) (sym (own-words s bytes cell)) ∙ sym (words-of-after (frameIn s) es (gridIn s)))
+      (ap (λ (ws : List ℕ). wordsAfter (frameIn s) ws es) (sym (own-words s bytes cell plain)) ∙ sym (words-of-after (frameIn s) es (gridIn s)))

@@ -4,5 +4,6 @@ pub mod SpotReached
 pub mod SixBytes
 pub mod FrameEdits
 pub mod EditWords
+pub mod EditsReplaced
 pub mod AfterEdits
 pub mod LookupAfter

@@ -44,6 +44,12 @@ module _ {A : Type 0} where
       let m = length-listed f n in
       ext-getD d (listed f n) l (m ∙ sym e) (λ i h. getD-listed f n i d (omega arith) ∙ same i (omega arith))
 
+-- parts that are equal, joined
+pub joined-same : {A : Type 0} (f g : ℕ → List A) (n : ℕ) → ((k : ℕ) → k < n → f k ≡ g k) → joined f n ≡ joined g n
+unfolding joined
+joined-same f g zero same = refl
+joined-same f g (suc n) same = rw (joined-same f g n (λ k h. same k (omega arith)), same n (omega arith))
+
 -- a paste behind a front
 pub paste-append : {A : Type 0} (xs l : List A) (i n : ℕ) (vs : List A) → length xs ≡ n → pasted (xs ++ l) (n + i) vs ≡ xs ++ pasted l i vs
 unfolding pasted

@@ -2,14 +2,14 @@
 use Prim.Native.Nat.{ℕ, zero, suc, _+_, _*_, _<_, _≤_}
 use native.Mathlib.Omega.{arith}
 use mathlib.Core.Path.{_≡_, refl, sym, ap, _∙_}
-use mathlib.Core.List.{List, [], _∷_, _++_, append-assoc}
+use mathlib.Core.List.{List, [], _∷_, _++_, append-assoc, append-nil}
 use lib.Dec.{lit<}
 use lib.ListN.{length, getD, take, drop, length-append, length-drop}
-use lib.Seq.{take-add, drop-drop}
+use lib.Seq.{take-add, take-at, drop-drop, drop-append-add}
 use Rattle.octets.specs.Numbers.{numberAt, bytesOf, bytesOfWords, Bytes}
-use Rattle.octets.specs.Parts.{listed}
+use Rattle.octets.specs.Parts.{listed, joined}
 use Rattle.octets.proofs.FrontLaws.{Begins, begins-less, begins-read, byte-below, bytes-join}
-use Rattle.octets.proofs.JoinedLaws.{listed-same}
+use Rattle.octets.proofs.JoinedLaws.{listed-same, joined-all}
 use Rattle.octets.proofs.NumberLaws.{length-bytes, bytes-back}
 
 pub length-words : (ws : List ℕ) → length (bytesOfWords ws) ≡ 2 * length ws
@@ -21,6 +21,24 @@ pub words-append : (us ws : List ℕ) → bytesOfWords (us ++ ws) ≡ bytesOfWor
 unfolding bytesOfWords
 words-append [] ws = refl
 words-append (u ∷ us) ws = rw (words-append us ws) (sym (append-assoc (bytesOf 2 u) (bytesOfWords us) (bytesOfWords ws)))
+
+-- the two bytes of word i, whatever follows the words; and the words as such parts
+pub word-part : (ws rest : List ℕ) (i : ℕ) → i < length ws → take 2 (drop (2 * i) (bytesOfWords ws ++ rest)) ≡ bytesOf 2 (getD ws i 0)
+unfolding bytesOfWords
+word-part [] rest i h = absurd (omega arith)
+word-part (w ∷ ws) rest zero h =
+    ap (take 2) (append-assoc (bytesOf 2 w) (bytesOfWords ws) rest) ∙ take-at (bytesOf 2 w) (bytesOfWords ws ++ rest) 2 (length-bytes 2 w)
+word-part (w ∷ ws) rest (suc i) h =
+    let u = bytesOf 2 w in
+    let at : 2 * suc i ≡ length u + 2 * i = omega (arith, length-bytes 2 w) in
+    rw (at, append-assoc u (bytesOfWords ws) rest, drop-append-add u (bytesOfWords ws ++ rest) (2 * i)) (word-part ws rest i (omega arith))
+
+pub words-joined : (ws : List ℕ) → joined (λ (i : ℕ). bytesOf 2 (getD ws i 0)) (length ws) ≡ bytesOfWords ws
+words-joined ws =
+    joined-all 2 (λ (i : ℕ). bytesOf 2 (getD ws i 0)) (bytesOfWords ws) (length ws) (length-words ws ∙ omega arith)
+    (λ k h.
+    let at : k * 2 ≡ 2 * k = omega arith in
+    rw at (sym (ap (λ (l : List ℕ). take 2 (drop (2 * k) l)) (sym (append-nil (bytesOfWords ws))) ∙ word-part ws [] k h)))
 
 pub words-bytes : (ws : List ℕ) → Bytes (bytesOfWords ws)
 unfolding bytesOfWords

@@ -35,7 +35,7 @@ up-post w h = simp (ne-eqb w 0xFFFF (λ e. omega arith), lt-ltb w 0x8000 h)
 pub up-allowed : (voids : Bool) (w : ℕ) → w < 0x8000 → wordAllowed voids w ≡ leb w 9000
 unfolding wordAllowed heightOf
 up-allowed voids w h =
-    simp (ne-eqb w 0xFFFF (λ e. omega arith), ne-eqb w 0x8000 (λ e. omega arith), lt-ltb w 0x8000 h, up-in-range)
+    simp (ne-eqb w 0xFFFF (λ e. omega arith), lt-ltb w 0x8000 h, up-in-range)
 
 -- a word with its sign bit that is not void
 pub down-post : (w : ℕ) → 0x8000 ≤ w → (w ≡ 0xFFFF → ⊥) → postOf w ≡ Height (negℤ (pos (w - 0x8000)))
@@ -43,10 +43,10 @@ unfolding postOf heightOf
 down-post w h v = simp (ne-eqb w 0xFFFF v, le-ltb w 0x8000 h)
 
 pub down-allowed : (voids : Bool) (w : ℕ)
-    → 0x8000 < w → (w ≡ 0xFFFF → ⊥) → wordAllowed voids w ≡ leb (w - 0x8000) 12000
+    → 0x8000 ≤ w → (w ≡ 0xFFFF → ⊥) → wordAllowed voids w ≡ leb (w - 0x8000) 12000
 unfolding wordAllowed heightOf
 down-allowed voids w h v =
-    simp (ne-eqb w 0xFFFF v, ne-eqb w 0x8000 (λ e. omega arith), le-ltb w 0x8000 (omega arith), down-in-range)
+    simp (ne-eqb w 0xFFFF v, le-ltb w 0x8000 h, down-in-range)
 
 -- the word of a height
 pub up-word : (z : ℤ) (n : ℕ) → z ≡ pos n → n % 0x8000 ≡ wordOf z

@@ -1,6 +1,6 @@
 -- Post words: sign and magnitude, not complemented (rules P1 to P4).
 use Prim.Native.Nat.{ℕ, _-_}
-use mathlib.Core.Bool.{Bool, false}
+use mathlib.Core.Bool.{Bool}
 use lib.IntN.{ℤ, pos, negℤ}
 use lib.Dec.{ltb, eqb}
 use Rattle.octets.specs.Choice.{pick}
@@ -20,6 +20,10 @@ postOf w = pick (eqb w 0xFFFF) Void (Height (heightOf w))
 unfoldable pub inRange : ℤ → Bool
 inRange z = between (negℤ (pos 12000)) (pos 9000) z
 
--- P4: void is allowed where voids are, 8000 hex nowhere, any other word where its height is in range
+-- P4: void is allowed where voids are, any other word where its height is in range
 unfoldable pub wordAllowed : Bool → ℕ → Bool
-wordAllowed voids w = pick (eqb w 0xFFFF) voids (pick (eqb w 0x8000) false (inRange (heightOf w)))
+wordAllowed voids w = pick (eqb w 0xFFFF) voids (inRange (heightOf w))
+
+-- P4, P6: a sign without magnitude, the second word of height 0, which is read and never written
+abbrev pub negativeZero : ℕ
+negativeZero = 0x8000

@@ -13,9 +13,6 @@ pub fn is_allowed(word: u16, voids: bool) -> bool
     if word < 0x8000 {
         return word <= 9000;
     }
-    if word == 0x8000 {
-        return false;
-    }
     word - 0x8000 <= 12000
 }
 

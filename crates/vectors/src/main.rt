@@ -7,6 +7,7 @@ use description::Description;
 use layout::HEADER_BYTES;
 
 mod said;
+mod sea;
 mod stream;
 mod writer;
 
@@ -38,10 +39,10 @@ fn judge(cell: &[u8], n: usize) {
     }
 }
 
-// Post 0 of column 0 made void, and the checksum mended.
-fn put_void(cell: &mut [u8]) {
+// Post 0 of column 0 made this word, and the checksum mended.
+fn put_word(cell: &mut [u8], word: u16) {
     if CELL <= cell.len() {
-        octets::numbers::put16(cell, 3436, 0xFFFF);
+        octets::numbers::put16(cell, 3436, word);
         let sum = octets::sums::sum(&cell[3428..3678]);
         octets::numbers::put32(cell, 3678, sum);
     }
@@ -103,7 +104,8 @@ fn main() {
     judge(&cell, CELL);
     put_headers(&mut cell, description(0, 359, 0));
     judge(&cell, CELL);
-    put_void(&mut cell);
+    sea::run(&mut cell);
+    put_word(&mut cell, 0xFFFF);
     judge(&cell, CELL);
     put_headers(&mut cell, description(0, 359, 7));
     judge(&cell, CELL);

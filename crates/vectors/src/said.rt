@@ -5,7 +5,7 @@ use host_items::items::ITEMS;
 use layout::HEADER_BYTES;
 
 // A number behind a blank, with its sign where it is below 0.
-fn print_number(z: i64) {
+pub fn print_number(z: i64) {
     if z < 0 {
         io::write_all(OUTPUT, b" -");
         io::print_decimal(OUTPUT, (-1 - z) as u64 + 1);
