@@ -88,9 +88,10 @@ static void put_height(uint8_t *grid, size_t index, int64_t height) {
     grid[2 * index + 1] = (uint8_t)((uint16_t)height & 0xFF);
 }
 
-/* The kinds of ground: limits only, plateaus of limits, anything, a slope, and, where it may be, nothing known at all. */
+/* The kinds of ground: limits only, plateaus of limits, anything, a slope, the sea with islands, and, where it may be, nothing known
+ * at all. */
 void cell_heights(struct random *random, bool voids, uint8_t *grid, size_t count) {
-    uint64_t kind = random_below(random, voids ? 5 : 4);
+    uint64_t kind = random_below(random, voids ? 6 : 5);
     int64_t height = edge_height(random);
     for (size_t i = 0; i < count; i++) {
         uint64_t drawn = random_next(random);
@@ -100,7 +101,9 @@ void cell_heights(struct random *random, bool voids, uint8_t *grid, size_t count
             height = (int64_t)(drawn % 21001) - 12000;
         else if (kind == 3)
             height = height < 9000 ? height + 1 : -12000;
-        bool hole = voids && (kind == 4 || (drawn >> 32) % 16 == 0);
+        else if (kind == 4)
+            height = drawn % 4 == 0 ? edge_height(random) : 0;
+        bool hole = voids && (kind == 5 || (drawn >> 32) % 16 == 0);
         put_height(grid, i, hole ? CELL_VOID : height);
     }
 }
@@ -162,6 +165,20 @@ static uint8_t *column_of(struct cell *cell, size_t k) {
     return cell->bytes + CELL_HEADERS + k * cell->column_bytes;
 }
 
+/* Height 0 by its other word, 8000, which no writer gives: in no column, in every one or in half of them, at all posts or at half. */
+static void other_zeros(struct random *random, struct cell *cell, size_t made) {
+    uint64_t kind = random_below(random, 4);
+    for (size_t k = 0; k < made; k++) {
+        uint8_t *words = column_of(cell, k) + 8;
+        if (kind == 0 || (kind == 1 && random_one_in(random, 2)))
+            continue;
+        for (size_t p = 0; p < cell->posts; p++)
+            if (words[2 * p] == 0 && words[2 * p + 1] == 0 && (kind == 2 || random_one_in(random, 2)))
+                words[2 * p] = 0x80;
+        cell_mend_checksum(cell, k);
+    }
+}
+
 void cell_make(struct random *random, const int64_t *items, size_t columns_made, struct cell *cell) {
     memcpy(cell->items, items, sizeof cell->items);
     set_sizes(cell);
@@ -179,6 +196,7 @@ void cell_make(struct random *random, const int64_t *items, size_t columns_made,
     for (size_t k = 0; k < made; k++)
         second_write_column(column_of(cell, k), cell->column_bytes, (uint64_t)items[0], k, cell->grid + 2 * k * cell->posts,
                             2 * cell->posts);
+    other_zeros(random, cell, made);
 }
 
 void cell_free(struct cell *cell) {
@@ -304,7 +322,7 @@ static void checksum(struct random *random, struct cell *cell) {
 }
 
 static void word(struct random *random, struct cell *cell) {
-    static const uint64_t words[] = {0x8000, 0x8000, 0x2329, 0xAEE1, 0xFFFF, 0xFFFF, 0xFFFE, 0x7FFF, 0x8001,
+    static const uint64_t words[] = {0x8000, 0x2329, 0x2329, 0xAEE1, 0xAEE1, 0xFFFF, 0xFFFF, 0xFFFE, 0x7FFF, 0x8001,
                                      0x2328, 0xAEE0, 0x4000, 0xC000, 0xD120, 0x232A, 0xAEE2};
     size_t k;
     if (!any_column(random, cell, &k))

@@ -46,10 +46,11 @@ struct cell {
 /* Items in range, at the edges of zones, hemispheres and ranges half of the time. */
 void cell_items(struct random *random, int64_t level, int64_t *items);
 
-/* Heights for `count` posts, at the limits at times, with voids where they are allowed. */
+/* Heights for `count` posts, at the limits at times and at times mostly 0, with voids where they are allowed. */
 void cell_heights(struct random *random, bool voids, uint8_t *grid, size_t count);
 
 /* A cell of these items, cut after `columns_made` columns (SIZE_MAX: whole). Free bytes and free letters are random at times.
+ * Posts at height 0 have the word 8000 at times, so that a column is not always what a writer makes of its heights.
  * The memory of an earlier cell is used again: start from a zeroed struct. */
 void cell_make(struct random *random, const int64_t *items, size_t columns_made, struct cell *cell);
 

@@ -77,11 +77,12 @@ static const struct word_example {
     int height;
 } word_examples[] = {
     {0x23, 0x28, 0, 0, 9000}, {0x23, 0x29, 0, 6, 0},     {0xAE, 0xE0, 0, 0, -12000}, {0xAE, 0xE1, 0, 6, 0},
-    {0x80, 0x01, 0, 0, -1},   {0xFF, 0xFF, 1, 0, -32767}, {0xFF, 0xFF, 0, 6, 0},      {0x80, 0x00, 1, 6, 0},
+    {0x80, 0x01, 0, 0, -1},   {0xFF, 0xFF, 1, 0, -32767}, {0xFF, 0xFF, 0, 6, 0},      {0x80, 0x00, 0, 0, 0},
     {0x23, 0x29, 1, 6, 0},    {0xAE, 0xE1, 99, 6, 0},    {0x00, 0x00, 0, 0, 0},      {0xFF, 0xFE, 1, 6, 0},
+    {0x80, 0x00, 1, 0, 0},
 };
 
-/* M6, M7, M8, and void in a complete cell. */
+/* M6, M7, M8, void in a complete cell, and both words of height 0. */
 static void word_case(const void *context) {
     const struct word_example *example = context;
     name_case("word %02X%02X", example->high, example->low);

@@ -322,6 +322,187 @@ static void all_fields_case(const void *context) {
     }
 }
 
+/* ---- the word 8000 ---- */
+
+#define SEA "negative_zero.dt0"
+#define SEA_LENGTH 8762
+#define POSTS (21 * 121)
+
+/* Column 2 of that cell begins at 3,936 and has its checksum at 4,186. Post 60, at 4,064, is 0000; post 61, at 4,066, is 8000. */
+static void read_sea(void) {
+    read_stored(SEA);
+    expect("its length", cell_length, SEA_LENGTH);
+    expect("post 60", (uint64_t)memcmp(cell + 4064, "\x00\x00", 2), 0);
+    expect("post 61", (uint64_t)memcmp(cell + 4066, "\x80\x00", 2), 0);
+    expect("the checksum", (uint64_t)memcmp(cell + 4186, "\x00\x00\x36\x4D", 4), 0);
+    both_lend(cell, cell_length);
+}
+
+static void sea_answers(const char *what) {
+    expect(what, both_intake().bits, 0x0001000000150079);
+    expect(what, both_post(2, 60).bits, 0x0002000000000000);
+    expect(what, both_post(2, 61).bits, 0x0002000000000000);
+    expect(what, both_position(3222000, 3600).bits, 0x00030002003C0000);
+    expect(what, both_position(3222300, 3600).bits, 0x00030002003D0000);
+}
+
+/* Both words of height 0 are answered alike, also where they have changed places: the sum stays. */
+static void sea_read_case(const void *context) {
+    (void)context;
+    name_case("height 0 by 0000 and by 8000");
+    read_sea();
+    sea_answers("as stored");
+    memcpy(cell + 4064, "\x80\x00\x00\x00", 4);
+    both_lend(cell, cell_length);
+    sea_answers("changed places");
+}
+
+/* The stored cell as a writer has it, with 0000 for each word 8000; and in how many posts that is. */
+static size_t written_sea(uint8_t *to) {
+    size_t found = 0;
+    memcpy(to, cell, SEA_LENGTH);
+    for (size_t i = 0; i < POSTS; i++) {
+        uint8_t *column = to + HEADERS + i / 121 * 254, *word = column + 8 + 2 * (i % 121);
+        if (word[0] != 0x80 || word[1] != 0x00)
+            continue;
+        word[0] = 0x00;
+        column[252] = (uint8_t)(column[252] - (column[253] < 128));
+        column[253] = (uint8_t)(column[253] - 128);
+        found++;
+    }
+    return found;
+}
+
+/* Each post is answered as in that cell, which the writer makes of the answered heights. */
+static void sea_posts_case(const void *context) {
+    static const int64_t items[ITEMS] = {0, 89, 0, 'U', 1, 'A', 1, -1, -1, -1, -1, -1, 0};
+    static uint8_t written[SEA_LENGTH], grid[2 * POSTS];
+    static uint64_t answers[POSTS];
+    (void)context;
+    name_case("every post of %s", SEA);
+    read_sea();
+    expect("words 8000", written_sea(written), 776);
+    for (size_t i = 0; i < POSTS; i++) {
+        dted_answer answer = both_post(i / 121, i % 121);
+        answers[i] = answer.bits;
+        dted_put_height(grid + 2 * i, dted_height(answer));
+    }
+    both_lend(written, SEA_LENGTH);
+    expect("intake of the other cell", both_intake().bits, 0x0001000000150079);
+    for (size_t i = 0; i < POSTS; i++)
+        expect("a post of the other cell", both_post(i / 121, i % 121).bits, answers[i]);
+    expect("write", both_write(SEA_LENGTH, false, items, grid, sizeof grid).bits, 0);
+    expect("the other cell's bytes", (uint64_t)memcmp(both_out(), written, SEA_LENGTH), 0);
+}
+
+/* An edit in column 2: the word that then stands there, and the checksum, which was 0000364D. */
+static const struct sea_edit {
+    uint64_t post;
+    int64_t height;
+    const char *word, *sum;
+} sea_edits[] = {
+    {5, -1, "\x80\x01", "\x00\x00\x36\x8E"},     {60, 7, "\x00\x07", "\x00\x00\x36\x54"},
+    {60, 0, "\x00\x00", "\x00\x00\x36\x4D"},     {61, 0, "\x00\x00", "\x00\x00\x35\xCD"},
+    {61, -1, "\x80\x01", "\x00\x00\x36\x4E"},    {61, 9000, "\x23\x28", "\x00\x00\x36\x18"},
+    {61, -12000, "\xAE\xE0", "\x00\x00\x37\x5B"},
+};
+
+/* No byte but the word's and the checksum's changes, so that the other words 8000 stay. */
+static void sea_edit_case(const void *context) {
+    const struct sea_edit *edit = context;
+    name_case("post %d edited to %d beside words 8000", (int)edit->post, (int)edit->height);
+    read_sea();
+    expect("edit", both_edit(2, edit->post, edit->height).bits, 0);
+    memcpy(cell + 3944 + 2 * edit->post, edit->word, 2);
+    memcpy(cell + 4186, edit->sum, 4);
+    expect("its bytes", (uint64_t)memcmp(both_cell(), cell, SEA_LENGTH), 0);
+    expect("its height", (uint64_t)dted_height(both_post(2, edit->post)), (uint64_t)edit->height);
+    expect("intake", both_intake().bits, 0x0001000000150079);
+}
+
+/* What a complete cell may not hold it may not hold there either. */
+static void sea_refused_case(const void *context) {
+    static const int64_t heights[] = {DTED_VOID, -32768, 32768, 9001, -12001};
+    (void)context;
+    name_case("refused edits of a post with 8000");
+    read_sea();
+    for (size_t i = 0; i < COUNT(heights); i++) {
+        expect("edit", both_edit(2, 61, heights[i]).bits, refusal(11, 0));
+        expect("its bytes", (uint64_t)memcmp(both_cell(), cell, SEA_LENGTH), 0);
+    }
+}
+
+/* In a grid the bytes 80 00 are -32768, which is no height, of a complete cell or of a partial one. */
+static void sea_grid_case(const void *context) {
+    static uint8_t grid[2 * POSTS];
+    int64_t items[ITEMS] = {0, 89, 0, 'U', 1, 'A', 1, -1, -1, -1, -1, -1, 0};
+    (void)context;
+    name_case("80 00 in a grid");
+    memset(grid, 0, sizeof grid);
+    grid[2 * 303] = 0x80;
+    for (int64_t partial = 0; partial <= 1; partial++) {
+        items[DTED_PARTIAL] = partial;
+        expect("write", both_write(SEA_LENGTH, false, items, grid, sizeof grid).bits, refusal(11, 303));
+    }
+    expect("column", both_write_column(254, false, 0, 2, grid + 2 * 242, 242).bits, refusal(11, 61));
+}
+
+/* A column of the lent cell, written from its posts. */
+static void rewrite_column(uint64_t column) {
+    uint8_t posts[242];
+    for (size_t p = 0; p < 121; p++)
+        dted_put_height(posts + 2 * p, dted_height(both_post(column, p)));
+    expect("write", both_write_column(254, false, 0, column, posts, sizeof posts).bits, 0);
+}
+
+/* A column with 8000 does not come back: 0000 is written. One without it does, byte for byte. */
+static void sea_column_case(const void *context) {
+    static uint8_t written[SEA_LENGTH];
+    (void)context;
+    name_case("columns with and without 8000, written from their posts");
+    read_sea();
+    written_sea(written);
+    rewrite_column(2);
+    expect("with 0000", (uint64_t)memcmp(both_out(), written + 3936, 254), 0);
+    expect("its checksum", (uint64_t)memcmp(both_out() + 250, "\x00\x00\x10\x4D", 4), 0);
+    expect("not the column's bytes", memcmp(both_out(), cell + 3936, 254) != 0, 1);
+    rewrite_column(15);
+    expect("the bytes of a column on land", (uint64_t)memcmp(both_out(), cell + 7238, 254), 0);
+    read_stored("north_89.dt0");
+    both_lend(cell, cell_length);
+    rewrite_column(2);
+    expect("the bytes of a column below 0", (uint64_t)memcmp(both_out(), cell + 3936, 254), 0);
+}
+
+/* One replaced byte of a column with both words of height 0 is refused, with a place in that column. */
+static void sea_byte_case(const void *context) {
+    static const uint8_t values[] = {0x00, 0x80, 0x01, 0x7F, 0x81, 0xFF};
+    (void)context;
+    name_case("every byte of a column with 8000");
+    read_sea();
+    for (size_t i = 0; i < 254 * COUNT(values); i++) {
+        uint8_t *byte = cell + 3936 + i / COUNT(values), kept = *byte;
+        *byte = values[i % COUNT(values)];
+        both_lend(cell, cell_length);
+        dted_answer answer = both_intake();
+        expect("refused, or as it was", dted_number(answer) != 0, *byte != kept);
+        if (*byte != kept)
+            expect("in its column", 3936 <= dted_place(answer) && dted_place(answer) < 4190, 1);
+        *byte = kept;
+    }
+}
+
+static void run_sea_cases(void) {
+    run_case(sea_read_case, NULL);
+    run_case(sea_posts_case, NULL);
+    for (size_t i = 0; i < COUNT(sea_edits); i++)
+        run_case(sea_edit_case, &sea_edits[i]);
+    run_case(sea_refused_case, NULL);
+    run_case(sea_grid_case, NULL);
+    run_case(sea_column_case, NULL);
+    run_case(sea_byte_case, NULL);
+}
+
 /* ---- every call, as the header and as the archive declares it ---- */
 
 static void twice(const char *what, dted_answer by_header, uint64_t bare, uint64_t due) {
@@ -393,5 +574,6 @@ void run_literal_cases(void) {
         for (size_t i = 0; i < COUNT(field_texts); i++)
             run_case(field_text_case, &field_texts[i]);
         run_case(all_fields_case, NULL);
+        run_sea_cases();
     }
 }

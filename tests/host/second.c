@@ -400,13 +400,11 @@ static uint64_t read_headers(const uint8_t *cell, size_t length, struct reading 
 
 /* ---- posts ---- */
 
-/* The height that a post word says; false where no cell may hold the word. */
+/* The height that a post word says; false where no cell may hold the word. 8000, minus nothing, says 0 as 0000 does. */
 static bool height_of_word(const uint8_t *word, bool voids, int *height) {
     int magnitude = (word[0] % 128) * 256 + word[1];
     bool minus = word[0] >= 128;
     *height = minus ? -magnitude : magnitude;
-    if (minus && magnitude == 0)
-        return false;
     if (minus && magnitude == 0x7FFF)
         return voids;
     return -12000 <= *height && *height <= 9000;
@@ -565,19 +563,19 @@ uint64_t second_position(const uint8_t *cell, size_t length, int64_t latitude, i
     return is_refused(answer) ? answer : three(POSITION, column, post, height_at(cell, &r, column, post));
 }
 
-/* An edit reads the whole column, changes one height of it, and makes the column afresh. */
+/* An edit replaces the post's word by the writer's and the checksum by the column's new sum; all other bytes stay, other words for
+ * the same heights too. */
 uint64_t second_edit(uint8_t *cell, size_t length, uint64_t column, uint64_t post, int64_t height) {
     struct reading r;
-    int heights[MOST_POSTS];
     uint64_t answer = judge_post(cell, length, column, post, &r);
     if (is_refused(answer))
         return answer;
     if (!height_allowed(height, r.partial != 0))
         return refused(11, 0);
-    for (int p = 0; p < r.posts; p++)
-        heights[p] = height_at(cell, &r, column, (uint64_t)p);
-    heights[post] = (int)height;
-    make_column(cell + HEADERS + (size_t)column * r.column_bytes, (size_t)column, heights, (size_t)r.posts);
+    uint8_t *start = cell + HEADERS + (size_t)column * r.column_bytes;
+    size_t summed = r.column_bytes - 4;
+    put_word(start + 8 + 2 * (size_t)post, (int)height);
+    put_number(start + summed, 4, sum_of(start, summed));
     return 0;
 }
 

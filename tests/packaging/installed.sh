@@ -130,6 +130,7 @@ height() { # CELL LATITUDE LONGITUDE
 if [ "$(uname -m)" = x86_64 ]; then
     same 'height.py' '486, status 0' "$(height cells/terrain.dt0 46.5 7.5)"
     same 'height.py, below the sea' '-60, status 0' "$(height cells/north_89.dt0 89 0)"
+    same 'height.py, the word 8000' '0, status 0' "$(height cells/negative_zero.dt0 89 0)"
     same 'height.py, a void' 'void, status 0' "$(height cells/void_in_partial.dt0 90 1)"
     same 'height.py, a wrong checksum in another column' 'refused 5 3678, status 1' "$(height cells/wrong_first_checksum.dt0 0 -179.5)"
     same 'height.py, off the cell' 'refused 8 0, status 1' "$(height cells/terrain.dt0 1e300 7.5)"

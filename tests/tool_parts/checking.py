@@ -19,10 +19,11 @@ LINES = (("empty.dt0", "refused 1: fewer bytes than the headers have (length 0)"
          ("one_short.dt0", "refused 3: a column is not there whole (offset 8508), column 20"),
          ("renumbered_column.dt0", "refused 4: a preamble field is wrong (offset 3683), column 1"),
          ("wrong_first_checksum.dt0", "refused 5: a checksum differs (offset 3678), column 0"),
-         ("negative_zero.dt0", "refused 6: a post word is not allowed (offset 3954), column 2, post 5"),
+         ("too_high.dt0", "refused 6: a post word is not allowed (offset 3954), column 2, post 5"),
          ("void_in_complete.dt0", "refused 6: a post word is not allowed (offset 8756), column 20, post 120"),
          ("one_long.dt0", "refused 7: bytes stand after the last column (length due 8762)"),
-         ("north_89.dt0", GOOD))
+         ("north_89.dt0", GOOD),
+         ("negative_zero.dt0", GOOD))
 # north_89.dt0 with another text in a field
 TEXTS = ((47, "0031", f"{OFF_TABLE} (offset 49: UHL 48-51, columns)"),
          (357, "1200", f"{OFF_TABLE} (offset 358: DSI 278-281, longitude interval)"),
@@ -86,7 +87,7 @@ def columns_of_levels(folder):
             cell = filled(folder / "cell", second_writer.with_byte(good, at + 8, 0x70))
             told(f"level {level}, a byte of column {column}", ("check", cell),
                  f"{cell}: refused 5: a checksum differs (offset {at + size - 4}), column {column}\n", status=1)
-            wrong = filled(folder / "cell", second_writer.with_word(good, size, column, 100, 0x8000))
+            wrong = filled(folder / "cell", second_writer.with_word(good, size, column, 100, 0x2329))
             told(f"level {level}, a word of column {column}", ("check", wrong),
                  f"{cell}: refused 6: a post word is not allowed (offset {at + 208}), column {column}, post 100\n", status=1)
 

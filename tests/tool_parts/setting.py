@@ -15,11 +15,12 @@ def shown(metres):
 
 
 def corrections(folder):
-    """The two bytes of the post and the checksum, as the second writer has them."""
-    for name in ("void_in_partial.dt0", "north_89.dt0"):
+    """The two bytes of the post and the checksum, as the second writer has them; other posts keep their words, 8000 too."""
+    for name in ("void_in_partial.dt0", "north_89.dt0", "negative_zero.dt0"):
         data = stored(name)[0]
         cell = filled(folder / "cell.dt0", data)
         for column, post, word in ((0, 0, "1234"), (20, 120, "-12000"), (20, 120, "9000"), (7, 60, "-1"), (7, 60, "0"), (7, 60, "+5"),
+                                   (2, 61, "0"),
                                    *([(3, 3, "void"), (3, 4, "-32767")] if "partial" in name else [])):
             before, after = height(data, column, post), None if word in ("void", "-32767") else int(word)
             data = with_height(data, column, post, after)

@@ -49,6 +49,10 @@ def info(folder):
     for name, corner in (("west_180", "0N 180W"), ("north_89", "89N 0E")):
         rows = run("info", ROOT / f"cells/{name}.dt0").stdout.decode()
         same(f"info: the corner {corner}", 1, rows.count(f"south-west corner             {corner}\n"))
+    sea = stored("negative_zero.dt0")[0]
+    rows = run("info", ROOT / "cells/negative_zero.dt0").stdout.decode()
+    for name, wanted in (("lowest", min), ("highest", max)):
+        same(f"info: the {name} height beside words 8000", 1, rows.count(f"{name} height".ljust(30) + f"{first(sea, 21, wanted)}\n"))
 
 
 def posts():
@@ -58,6 +62,8 @@ def posts():
     for column, post in [(0, 0), (20, 120), (20, 119), *((chosen.randrange(21), chosen.randrange(121)) for _ in range(20))]:
         metres = height(cell, column, post)
         told(f"post {column} {post}", ("post", path, column, post), "void\n" if metres is None else f"{metres}\n")
+    for post in (60, 61):
+        told(f"post {post}, height 0 by either word", ("post", ROOT / "cells/negative_zero.dt0", 2, post), "0\n")
     told("a post with zeros in front", ("post", path, "0020", "0120"), "void\n")
     for column, post in ((21, 0), (0, 121), (2**32, 0), (0, 2**32), (2**64 - 1, 0), (0, 2**64 - 1)):
         told(f"post {column} {post}", ("post", path, column, post), errors=f"dted: {path}: {OFF_GRID}\n", status=1)
