@@ -45,7 +45,7 @@ def cited(path, commands):
     """A page cites each test that was run and no other, and gives the commands that were run."""
     with open(path, encoding="utf-8") as file:
         page = re.sub(r"\s*\\\n\s*", " ", file.read())
-    run, told = set(names), set(re.findall(r"`((?:ours|theirs|ties|damage|edit|tk)\.[a-z_]+)`", page))
+    run, told = set(names), set(re.findall(r"`((?:ours|theirs|ties|damage|edit|zero|tk)\.[a-z_]+)`", page))
     for name in sorted(run | told):
         check("page.cited", f"{name}: run, cited", (True, True), (name in run, name in told))
     for command in commands:

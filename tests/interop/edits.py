@@ -105,18 +105,25 @@ def whole_columns():
 
 
 def negative_zero():
-    """A word that we refuse, in a column with a right checksum: GDAL rewrites it by the way."""
+    """The word 8000 in another post of the column: GDAL writes it anew by the way, dted_edit leaves it; read, the two files are one."""
     whole, _ = good_cell()
     changed = bytearray(whole)
     at = ours.post_at(0, COLUMN, 70)
     changed[at:at + 2] = b"\x80\x00"
     changed[START + LENGTH - 4:START + LENGTH] = sum(changed[START:START + LENGTH - 4]).to_bytes(4, "big")
+    store(GOOD, bytes(changed))
     store(BAD, bytes(changed))
-    before = ours.judge(BAD)
+    before = ours.judge(GOOD)
+    check("edit.other_word", "dted_edit", "", ours.edit(GOOD, COLUMN, POST, 123))
     theirs.change(BAD, COLUMN, POST, 123)
-    fact("edit.other_word", f"the word 8000 in another post, intake: {before}; GDAL's update makes it "
-         f"{load(BAD)[at:at + 2].hex()}; intake: {ours.judge(BAD)}",
-         before == f"refused 6 {at}" and load(BAD)[at:at + 2] == b"\0\0" and ours.judge(BAD) == "accepted 0 121 121")
+    left, made = load(GOOD)[at:at + 2], load(BAD)[at:at + 2]
+    heights = [ours.posts(GOOD, 121), ours.posts(BAD, 121), theirs.read(GOOD)[0], theirs.read(BAD)[0]]
+    alike = all(np.array_equal(one, heights[0]) for one in heights)
+    fact("edit.other_word", f"the word 8000 in another post, intake: {before}; dted_edit leaves it {left.hex()}, GDAL's update makes it "
+         f"{made.hex()}; both read the same heights in both files: {alike}, {int(heights[0][COLUMN, 70])} in that post",
+         before == "accepted 0 121 121" and (left, made) == (b"\x80\x00", b"\0\0") and alike and heights[0][COLUMN, 70] == 0)
+    others = set(changed_bytes(load(GOOD), load(BAD))) - {at, *range(START + LENGTH - 4, START + LENGTH)}
+    check("edit.other_word", "bytes that differ besides that word and the checksum", set(), others)
 
 
 def not_allowed():

@@ -15,12 +15,13 @@ import made_by_us
 import theirs
 import ties
 import tk
+import zeros
 
 
 def main():
-    print(f"GDAL {gdal.VersionInfo('RELEASE_NAME')}: cells that we write, GDAL's cells, ties, damage, edits; then tkimg")
+    print(f"GDAL {gdal.VersionInfo('RELEASE_NAME')}: cells that we write, GDAL's cells, ties, damage, edits, the word 8000; then tkimg")
     os.chdir(sys.argv[1])
-    for part in (made_by_us, made_by_gdal, ties, damage, edits, tk):
+    for part in (made_by_us, made_by_gdal, ties, damage, edits, zeros, tk):
         theirs.checking(False)
         counting.guarded(part.run)
     counting.cited(os.environ["PAGE"], (made_by_gdal.MEND, made_by_gdal.MAKE))

@@ -154,15 +154,34 @@ def heights_out_of_range():
         columns = np.zeros((121, 121), dtype=np.int16)
         columns[column, post] = height
         silent = made(46, 7, columns, theirs.NOT_AVAILABLE) == []
-        allowed = -12000 <= height <= 9000
+        allowed = -12000 <= height <= 9000 or height == -32768  # of which it makes a word for 0
         due = "accepted 0 121 121" if allowed else f"refused 6 {ours.post_at(0, column, post)}"
         check("theirs.range", f"height {height}", (due, True), (ours.judge(PATH), silent))
         back = int(theirs.read(PATH)[0][column, post])
         if back != height:
             seen.append((height, back))
-    fact("theirs.range", "GDAL writes heights outside -12000 to 9000 without a word; we refuse the cell as 6 at the post")
+    fact("theirs.range", "GDAL writes heights outside -12000 to 9000 without a word; we refuse the cell as 6 at the post, but for -32768")
     fact("theirs.read_back", "written and read by GDAL: " + ", ".join(f"{a} comes back as {b}" for a, b in seen),
          seen == [(-16001, -16767), (-32766, -2), (-32768, 0)])
+
+
+def lowest_number():
+    """-32768, which many rasters have where nothing is known: as a height, and as the source's own no-data value."""
+    column, post = 3, 20
+    columns = np.zeros((121, 121), dtype=np.int16)
+    columns[column, post] = -32768
+    at = ours.post_at(0, column, post)
+    made(46, 7, columns, theirs.NOT_AVAILABLE)
+    word, line, read = load(PATH)[at:at + 2], ours.judge(PATH), int(ours.posts(PATH, 121)[column, post])
+    fact("theirs.lowest", f"-32768 given to GDAL: it writes {word.hex()}; intake: {line}, and the post reads {read}",
+         (word, line, read) == (b"\x80\x00", "accepted 0 121 121", 0))
+    forget()
+    raster = theirs.source(46, 7, columns, theirs.NOT_AVAILABLE)
+    raster.GetRasterBand(1).SetNoDataValue(-32768)
+    gdal.GetDriverByName("DTED").CreateCopy(PATH, raster)
+    word, line, read = load(PATH)[at:at + 2], ours.judge(PATH), int(ours.posts(PATH, 121)[column, post])
+    fact("theirs.no_data", f"the same as the source's no-data value: it writes {word.hex()}; intake: {line}, and the post reads {read}",
+         (word, line, read) == (b"\xff\xff", "accepted 0 121 121", ours.VOID))
 
 
 def loose_metadata():
@@ -212,7 +231,7 @@ def run():
         one(*cell)
     print(f"{len(cells)} cells")
     fact("theirs.nul", "GDAL writes each accuracy of the ACC as N, A, a NUL, a blank unless told more; intake: refused 21 731")
-    for part in (header_bytes, side_file, translated, heights_out_of_range, loose_metadata, wrong_width, tape_labels):
+    for part in (header_bytes, side_file, translated, heights_out_of_range, lowest_number, loose_metadata, wrong_width, tape_labels):
         forget()
         part()
     forget()
