@@ -39,6 +39,13 @@ static const struct calls sets[] = {
 };
 enum { SET_COUNT = sizeof sets / sizeof *sets };
 
+/* The other archive may be one that refuses the word 8000. */
+#ifdef WITH_OLD
+enum { TAKE_ZEROS = SET_COUNT - 1 };
+#else
+enum { TAKE_ZEROS = SET_COUNT };
+#endif
+
 static const int64_t items[DTED_ITEMS] = {
     [DTED_LEVEL] = 2,
     [DTED_LATITUDE] = 46,
@@ -386,7 +393,7 @@ int main(void) {
     make_cell();
     make_picks();
     for (size_t i = 1; i < SET_COUNT; i++)
-        compared += compare(&sets[0], &sets[i], cell, out, length);
+        compared += compare(&sets[0], &sets[i], cell, out, length, i < TAKE_ZEROS);
     if (gdal_version())
         check_gdal();
     print_heading(compared);

@@ -445,9 +445,9 @@ static uint32_t byte_sum(const uint8_t *p, size_t n) {
     return sum;
 }
 
-/* 1 for a word that no cell may hold; `pass` is FFFF where voids are allowed and 0 elsewhere. */
+/* 1 for a word that no cell may hold; `pass` is FFFF where voids are allowed and 0 elsewhere. 8000 is height 0 as well. */
 static inline unsigned is_bad_word(uint16_t word, uint16_t pass) {
-    return (word > HIGHEST) & ((uint16_t)(word - 0x8001) > -LOWEST - 1) & (word != pass);
+    return (word > HIGHEST) & ((uint16_t)(word - 0x8000) > -LOWEST) & (word != pass);
 }
 
 static bool any_bad_word(const uint8_t *words, size_t posts, uint16_t pass) {
