@@ -79,5 +79,5 @@ module _ (s : List ℕ) (cell : Cell s) (k : ℕ) (h : k < frameIn s .grid .colu
         let zs = heightsIn (columnAt s g k) (g .posts) in
         let long : length (columnAt s g k) ≡ g .bytes .column = cell .framed .columns k h .long ∙ sym (cell-facts s cell .grid .column) in
         ap (λ (o : Outcome). outputAfter o (columnOf k zs) out) return-done
-        ∙ ap (λ (c : List ℕ). c ++ drop (length c) out) (column-afresh s bytes cell k h plain)
+        ∙ ap (λ (c : List ℕ). c ++ drop (length c) out) (column-afresh s cell bytes k h plain)
         ∙ ap (λ (n : ℕ). columnAt s g k ++ drop n out) long

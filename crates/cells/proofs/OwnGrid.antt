@@ -15,7 +15,7 @@ use Rattle.posts.specs.Heights.{wordOf, saidBy}
 use Rattle.headers.specs.Judged.{frameIn}
 use Rattle.columns.specs.Column.{columnOfWords, wordsOf, columnOf, wordIn, wordsIn, heightsIn, Plain}
 use Rattle.columns.proofs.ColumnWords.{good-allowed, column-is}
-use Rattle.columns.proofs.ColumnHeights.{said-held, words-allowed, words-written, written-plain}
+use Rattle.columns.proofs.ColumnHeights.{said-held, words-allowed, words-written, only-plain}
 use Rattle.cells.specs.Cell.{startOf, columnAt, Cell}
 use Rattle.cells.specs.Words.{cellOfWords, wordsUnder, wordsOfCell}
 use Rattle.cells.specs.Grid.{heightAt, afresh, gridIn}
@@ -44,15 +44,12 @@ module _ (s : List ℕ) where
       subst (λ (ws : List ℕ). getD ws i 0 ≡ negativeZero → ⊥) (part-under g s k h)
       (part-each (g .posts) (λ w. w ≡ negativeZero → ⊥) (wordsOfCell s) (g .columns) 0 (λ j v. plain j (omega (arith, length-under g s))) k h i (omega arith))
 
-module _ (s : List ℕ) (bytes : Bytes s) (cell : Cell s) where
+module _ (s : List ℕ) (cell : Cell s) where
   -- the words that are written for its posts are its words, where they are plain
   pub own-words : Plain (wordsOfCell s) → wordsOf (gridIn s) ≡ wordsOfCell s
   own-words = words-written (frameIn s .voids) (wordsOfCell s) (cell-made s cell .allowed)
 
-  pub cell-afresh : Plain (wordsOfCell s) → afresh (take headerBytes s) (frameIn s .grid) (gridIn s) ≡ s
-  cell-afresh plain = ap (cellOfWords (take headerBytes s) (frameIn s .grid)) (own-words plain) ∙ cell-remade s cell bytes
-
-  -- and only there
+  -- and a cell that is its columns written afresh has plain words
   pub afresh-plain : afresh (take headerBytes s) (frameIn s .grid) (gridIn s) ≡ s → Plain (wordsOfCell s)
   afresh-plain same =
       let f = frameIn s in
@@ -63,15 +60,19 @@ module _ (s : List ℕ) (bytes : Bytes s) (cell : Cell s) where
         all = length-map (gridIn s) wordOf ∙ length-grid s;
         allowed = words-allowed (f .voids) (gridIn s) (said-held (f .voids) (wordsOfCell s) (made .allowed));
       } in
-      written-plain (f .voids) (wordsOfCell s) (made .allowed)
+      only-plain (f .voids) (wordsOfCell s) (made .allowed)
       (sym (words-there f (take headerBytes s) (wordsOf (gridIn s)) written) ∙ ap (wordsUnder (f .grid)) same)
 
-  -- a column written from its own posts
-  pub column-afresh : (k : ℕ) → k < frameIn s .grid .columns → Plain (wordsIn (columnAt s (frameIn s .grid) k) (frameIn s .grid .posts))
-      → columnOf k (heightsIn (columnAt s (frameIn s .grid) k) (frameIn s .grid .posts)) ≡ columnAt s (frameIn s .grid) k
-  column-afresh k h plain =
-      let g = frameIn s .grid in
-      let c = columnAt s g k in
-      let good = cell .framed .columns k h in
-      ap (columnOfWords k) (words-written (frameIn s .voids) (wordsIn c (g .posts)) (good-allowed c k (g .posts) (frameIn s .voids) good) plain)
-      ∙ column-is c k (g .posts) (part-bytes s (startOf g k) (g .bytes .column) bytes) (good .long) (good .right)
+  module _ (bytes : Bytes s) where
+    pub cell-afresh : Plain (wordsOfCell s) → afresh (take headerBytes s) (frameIn s .grid) (gridIn s) ≡ s
+    cell-afresh plain = ap (cellOfWords (take headerBytes s) (frameIn s .grid)) (own-words plain) ∙ cell-remade s cell bytes
+
+    -- a column written from its own posts
+    pub column-afresh : (k : ℕ) → k < frameIn s .grid .columns → Plain (wordsIn (columnAt s (frameIn s .grid) k) (frameIn s .grid .posts))
+        → columnOf k (heightsIn (columnAt s (frameIn s .grid) k) (frameIn s .grid .posts)) ≡ columnAt s (frameIn s .grid) k
+    column-afresh k h plain =
+        let g = frameIn s .grid in
+        let c = columnAt s g k in
+        let good = cell .framed .columns k h in
+        ap (columnOfWords k) (words-written (frameIn s .voids) (wordsIn c (g .posts)) (good-allowed c k (g .posts) (frameIn s .voids) good) plain)
+        ∙ column-is c k (g .posts) (part-bytes s (startOf g k) (g .bytes .column) bytes) (good .long) (good .right)

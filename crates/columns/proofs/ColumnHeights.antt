@@ -11,7 +11,7 @@ use Rattle.octets.proofs.ListLaws.{mapped}
 use Rattle.octets.proofs.JoinedLaws.{length-listed, getD-listed}
 use Rattle.layout.specs.Levels.{columnBytes}
 use Rattle.posts.specs.Heights.{wordOf, saidBy, heightAllowed}
-use Rattle.posts.proofs.RoundTrip.{word-allowed, word-back, never-negative, height-back, form-allowed}
+use Rattle.posts.proofs.RoundTrip.{word-allowed, word-back, never-negative-zero, height-back, form-allowed}
 use Rattle.columns.specs.Column.{wordsOf, columnOf, wordIn, wordsIn, heightsIn, GoodColumn, Allowed, Plain}
 use Rattle.columns.proofs.ColumnWords.{length-column, words-good}
 
@@ -36,7 +36,7 @@ words-allowed voids zs held i h =
 pub words-plain : (voids : Bool) (zs : List ℤ) → Held voids zs → Plain (wordsOf zs)
 words-plain voids zs held i h e =
     let u : i < length zs = omega (arith, length-map zs wordOf) in
-    never-negative voids (getD zs i (pos 0)) (held i u) (sym (mapped wordOf zs i (pos 0) 0 u) ∙ e)
+    never-negative-zero voids (getD zs i (pos 0)) (held i u) (sym (mapped wordOf zs i (pos 0) 0 u) ∙ e)
 
 -- each element changed there and back
 there-back : {A B : Type 0} (f : A → B) (g : B → A) (l : List A) (d : A) → ((i : ℕ) → i < length l → g (f (getD l i d)) ≡ getD l i d) → map g (map f l) ≡ l
@@ -68,5 +68,5 @@ module _ (k posts : ℕ) (voids : Bool) (zs : List ℤ) (long : length zs ≡ po
 pub words-written : (voids : Bool) (ws : List ℕ) → Allowed voids ws → Plain ws → wordsOf (map saidBy ws) ≡ ws
 words-written voids ws allowed plain = there-back saidBy wordOf ws 0 (λ i h. word-back voids (getD ws i 0) (allowed i h) (plain i h))
 
-pub written-plain : (voids : Bool) (ws : List ℕ) → Allowed voids ws → wordsOf (map saidBy ws) ≡ ws → Plain ws
-written-plain voids ws allowed same = subst Plain same (words-plain voids (map saidBy ws) (said-held voids ws allowed))
+pub only-plain : (voids : Bool) (ws : List ℕ) → Allowed voids ws → wordsOf (map saidBy ws) ≡ ws → Plain ws
+only-plain voids ws allowed same = subst Plain same (words-plain voids (map saidBy ws) (said-held voids ws allowed))

@@ -2,7 +2,7 @@
 -- columns replaced, which in a cell of plain words are the headers and the columns written afresh from the edited posts.
 use Prim.Native.Nat.{ℕ}
 use mathlib.Core.Path.{_≡_, refl, sym, ap, subst, _∙_}
-use mathlib.Core.Bool.{Bool}
+use mathlib.Core.Bool.{Bool, true, false}
 use mathlib.Core.List.{List, [], _∷_, map}
 use lib.ListN.{take}
 use Rattle.octets.specs.Numbers.{Bytes}
@@ -43,6 +43,12 @@ module _ {A : Type 0} (isDone : A → Bool) where
     pub answers : map isDone rs ≡ map (takes (frameIn l)) es
 
 module _ {A : Type 0} {isDone : A → Bool} where
+  -- a refused call, and then one that was done: the old bytes with the one word replaced
+  pub one-done : (l l' : List ℕ) (e e' : Call) (r r' : A) → Left isDone l (e ∷ e' ∷ []) (r ∷ r' ∷ []) l' → isDone r ≡ false → isDone r' ≡ true
+      → l' ≡ withReplaced (frameIn l .grid) l (e' ∷ [])
+  unfolding doneAmong
+  one-done l l' e e' r r' left refused done = left .replaced ∙ rw (refused, done)
+
   -- under headers h that give the frame f, call after call moves the words alone
   chain-answered : (f : Frame) (h : List ℕ) → Headed f h → {l l' : List ℕ} {es : List Call} {rs : List A} → Chain isDone l es rs l'
       → (ws : List ℕ) → Made f h ws → l ≡ cellOfWords h (f .grid) ws → map isDone rs ≡ map (takes f) es

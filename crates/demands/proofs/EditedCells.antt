@@ -1,6 +1,6 @@
 -- Demand 3 over the edit's own promise (rule D3): calls that keep it, in any sequence, leave the old bytes with the edited words and their checksums replaced.
 use Prim.Native.Nat.{ℕ}
-use mathlib.Core.Path.{_≡_, refl, sym, ap}
+use mathlib.Core.Path.{_≡_, refl, sym, ap, subst}
 use mathlib.Core.Bool.{Bool, true, false}
 use mathlib.Core.List.{List, [], _∷_}
 use contract.Lifetimes as L
@@ -14,10 +14,11 @@ use Rattle.headers.specs.Judged.{frameIn}
 use Rattle.cells.specs.Cell.{Cell}
 use Rattle.edit.specs.Edit.{judgedEdit, editTold}
 use Rattle.edit.specs.Sequence.{Call, takes}
+use Rattle.edit.specs.Replaced.{withReplaced}
 use Rattle.edit.proofs.EditWords.{edit-answered}
 use Rattle.edit.proofs.edit.Reads as edit
 use Rattle.edit.proofs.edit.Kinds as kinds
-use Rattle.demands.proofs.EditChain.{Chain, empty, call, Left, chain-left}
+use Rattle.demands.proofs.EditChain.{Chain, empty, call, Left, one-done, chain-left}
 
 -- an answer tells done
 abbrev pub isDone : Outcome → Bool
@@ -54,3 +55,13 @@ chained (more κs a r s promise rest) = call (a .0 .now) (s .0 .now) (callOf κs
 
 pub edited-cells : (l l' : List ℕ) (es : List Call) (rs : List Outcome) → Edits l es rs l' → Cell l → Bytes l → Left isDone l es rs l'
 edited-cells l l' es rs calls = chain-left l l' es rs (chained calls)
+
+-- so a refused call and then, on what it left, one that was done
+pub refused-then-done : (κs κs' : L.Lfts 1) (a : K.Dens κs kinds.ps) (b : K.Dens κs' kinds.ps) (r q : Outcome) (s t : _)
+    → edit.Post κs a r s → edit.Post κs' b q t → b .0 .now ≡ s .0 .now → Cell (a .0 .now) → Bytes (a .0 .now) → isDone r ≡ false → isDone q ≡ true
+    → t .0 .now ≡ withReplaced (frameIn (a .0 .now) .grid) (a .0 .now) (callOf κs' b ∷ [])
+refused-then-done κs κs' a b r q s t kept kept' same cell bytes refused done =
+    let second : Edits (s .0 .now) (callOf κs' b ∷ []) (q ∷ []) (t .0 .now) =
+    subst (λ (l : List ℕ). Edits l (callOf κs' b ∷ []) (q ∷ []) (t .0 .now)) same (more κs' b q t kept' none)
+    in
+    one-done (a .0 .now) (t .0 .now) (callOf κs a) (callOf κs' b) r q (edited-cells _ _ _ _ (more κs a r s kept second) cell bytes) refused done

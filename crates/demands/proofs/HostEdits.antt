@@ -1,7 +1,7 @@
 -- D3 for a C host: calls of the edit, each of which keeps its promise, in any sequence leave the old bytes with the edited words and their checksums replaced.
 use Prim.Native.Nat.{ℕ}
-use mathlib.Core.Path.{_≡_}
-use mathlib.Core.Bool.{Bool}
+use mathlib.Core.Path.{_≡_, subst}
+use mathlib.Core.Bool.{Bool, true, false}
 use mathlib.Core.List.{List, [], _∷_}
 use lib.Dec.{eqb}
 use contract.Lifetimes as L
@@ -11,10 +11,11 @@ use Rattle.headers.specs.Judged.{frameIn}
 use Rattle.cells.specs.Cell.{Cell}
 use Rattle.edit.specs.Edit.{judgedEdit, editTold}
 use Rattle.edit.specs.Sequence.{Call, takes}
+use Rattle.edit.specs.Replaced.{withReplaced}
 use Rattle.edit.proofs.EditWords.{edit-answered}
 use Rattle.dted.proofs.cells.dted_edit.Reads as edit
 use Rattle.dted.proofs.cells.dted_edit.Kinds as edit-kinds
-use Rattle.demands.proofs.EditChain.{Chain, empty, call, Left, chain-left}
+use Rattle.demands.proofs.EditChain.{Chain, empty, call, Left, one-done, chain-left}
 use Rattle.demands.proofs.HostAnswers.{answer-is}
 
 -- 0 tells done
@@ -46,3 +47,13 @@ chained (more κs a r s promise rest) = call (a .0 .now) (s .0 .now) (callOf κs
 
 pub edited-cells : (l l' : List ℕ) (es : List Call) (rs : List ℕ) → Edits l es rs l' → Cell l → Bytes l → Left isDone l es rs l'
 edited-cells l l' es rs calls = chain-left l l' es rs (chained calls)
+
+-- so a refused call and then, on what it left, one that was done
+pub refused-then-done : (κs κs' : L.Lfts 1) (a : K.Dens κs edit-kinds.ps) (b : K.Dens κs' edit-kinds.ps) (r q : ℕ) (s t : _)
+    → edit.Post κs a r s → edit.Post κs' b q t → b .0 .now ≡ s .0 .now → Cell (a .0 .now) → Bytes (a .0 .now) → isDone r ≡ false → isDone q ≡ true
+    → t .0 .now ≡ withReplaced (frameIn (a .0 .now) .grid) (a .0 .now) (callOf κs' b ∷ [])
+refused-then-done κs κs' a b r q s t kept kept' same cell bytes refused done =
+    let second : Edits (s .0 .now) (callOf κs' b ∷ []) (q ∷ []) (t .0 .now) =
+    subst (λ (l : List ℕ). Edits l (callOf κs' b ∷ []) (q ∷ []) (t .0 .now)) same (more κs' b q t kept' none)
+    in
+    one-done (a .0 .now) (t .0 .now) (callOf κs a) (callOf κs' b) r q (edited-cells _ _ _ _ (more κs a r s kept second) cell bytes) refused done

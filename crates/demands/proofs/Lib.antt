@@ -20,3 +20,5 @@ pub mod EditTouches
 pub mod EditReads
 pub mod SteppedWhole
 pub mod ColumnsReturned
+pub mod ColumnsWritten
+pub mod SeaCells

@@ -144,7 +144,7 @@ host-post-answered κs a r s kept cell hc hp =
     subst (Answered (now (a .0)) (a .1 .0) (a .1 .1 .0)) (sym (post-told κs a r s kept))
     (post-answered-so (now (a .0)) cell (a .1 .0) (a .1 .1 .0) hc hp)
 
--- and where 8000 hex stands the answer's bits are those of height 0
+-- where 8000 hex stands the answer's bits are those of height 0
 pub host-post-zero : (κs : L.Lfts 1) (a : K.Dens κs host-post-kinds.ps) (r : _) (s : _) → host-post.Post κs a r s → Cell (now (a .0))
     → a .1 .0 < factsIn (now (a .0)) .grid .columns → a .1 .1 .0 < factsIn (now (a .0)) .grid .posts
     → storedAt (now (a .0)) (a .1 .0) (a .1 .1 .0) ≡ negativeZero → r ≡ 0x0002000000000000

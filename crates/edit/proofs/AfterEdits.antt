@@ -11,7 +11,7 @@ use Rattle.layout.specs.Grid.{headerBytes}
 use Rattle.layout.specs.declared.Frame.{Frame}
 use Rattle.posts.specs.Words.{negativeZero}
 use Rattle.posts.specs.Heights.{wordOf, saidBy}
-use Rattle.posts.proofs.RoundTrip.{never-negative, height-back}
+use Rattle.posts.proofs.RoundTrip.{never-negative-zero, height-back}
 use Rattle.headers.specs.Judged.{frameIn}
 use Rattle.columns.specs.Column.{wordsOf, Plain}
 use Rattle.cells.specs.Cell.{Cell}
@@ -52,7 +52,7 @@ module _ (f : Frame) where
       by-test (takes f e)
       (λ t. rw t
       (each-set (λ w. w ≡ negativeZero → ⊥) ws (e .column * f .grid .posts + e .post) (wordOf (e .height)) 0
-      (never-negative (f .voids) (e .height) (taken f e t .held)) plain))
+      (never-negative-zero (f .voids) (e .height) (taken f e t .held)) plain))
       (λ t. rw t plain)
 
   pub plain-after : (es : List Call) (ws : List ℕ) → Plain ws → Plain (wordsAfter f ws es)
@@ -72,4 +72,4 @@ module _ (s : List ℕ) (cell : Cell s) (bytes : Bytes s) (es : List Call) where
   edits-afresh plain =
       edits-left s cell bytes es
       ∙ ap (cellOfWords (take headerBytes s) (frameIn s .grid))
-      (ap (λ (ws : List ℕ). wordsAfter (frameIn s) ws es) (sym (own-words s bytes cell plain)) ∙ sym (words-of-after (frameIn s) es (gridIn s)))
+      (ap (λ (ws : List ℕ). wordsAfter (frameIn s) ws es) (sym (own-words s cell plain)) ∙ sym (words-of-after (frameIn s) es (gridIn s)))

@@ -42,7 +42,7 @@ unfolding wordsAfter
 edits-made f h [] ws made = made
 edits-made f h (e ∷ es) ws made = edits-made f h es (wordsWith f ws e) (with-made f h ws made e)
 
--- D3: whatever the calls were, the bytes are the cell's own with each edited word, and its column's checksum, replaced
+-- D3 in words: whatever the calls were, the bytes are the headers as they were and the columns of the edited words
 module _ (s : List ℕ) (cell : Cell s) (bytes : Bytes s) (es : List Call) where
   after-made : Made (frameIn s) (take headerBytes s) (wordsAfter (frameIn s) (wordsOfCell s) es)
   after-made = edits-made (frameIn s) (take headerBytes s) es (wordsOfCell s) (cell-made s cell)

@@ -17,7 +17,7 @@ pub data Pair (voids : Bool) : ℕ → ℤ → Type 0 where
   void : voids ≡ true → Pair voids 0xFFFF voidNumber
   up : (n : ℕ) → n ≤ 9000 → Pair voids n (pos n)
   down : (w n : ℕ) → w ≡ 0x8001 + n → n < 12000 → Pair voids w (negsuc n)
-  negative : Pair voids negativeZero (pos 0)
+  second-zero : Pair voids negativeZero (pos 0)
 
 -- in a pair the height gives the word, unless that is the one which no writer puts
 pub word-of-pair : {voids : Bool} {w : ℕ} {z : ℤ} → Pair voids w z → (w ≡ negativeZero → ⊥) → wordOf z ≡ w
@@ -25,17 +25,17 @@ unfolding wordOf
 word-of-pair (void v) other = refl
 word-of-pair (up n h) other = mod-eq-of-lt (omega arith)
 word-of-pair (down w n e h) other = omega arith
-word-of-pair negative other = absurd (other refl)
+word-of-pair second-zero other = absurd (other refl)
 
+-- which it is not
 pub written-other : {voids : Bool} {w : ℕ} {z : ℤ} → Pair voids w z → wordOf z ≡ negativeZero → ⊥
 unfolding wordOf
 written-other (void v) e = omega arith
 written-other (up n h) e = omega arith
 written-other (down w n d h) e = omega arith
-written-other negative e = omega arith
+written-other second-zero e = omega arith
 
--- and the word the height
-
+-- the word gives the height
 pub form-of-pair : {voids : Bool} {w : ℕ} {z : ℤ} → Pair voids w z → formOf (postOf w) ≡ z
 unfolding postOf heightOf
 form-of-pair (void v) = refl
@@ -43,7 +43,7 @@ form-of-pair (up n h) = rw (up-post n (omega arith))
 form-of-pair (down w n e h) =
     let m : w - 0x8000 ≡ suc n = omega arith in
     rw (down-post w (omega arith) (λ q. omega arith), m)
-form-of-pair negative = refl
+form-of-pair second-zero = refl
 
 -- both are allowed
 pub word-in-pair : {voids : Bool} {w : ℕ} {z : ℤ} → Pair voids w z → wordAllowed voids w ≡ true
@@ -52,7 +52,7 @@ word-in-pair (void v) = v
 word-in-pair {voids = voids} (up n h) = up-allowed voids n (omega arith) ∙ le-leb n 9000 h
 word-in-pair {voids = voids} (down w n e h) =
     down-allowed voids w (omega arith) (λ q. omega arith) ∙ le-leb (w - 0x8000) 12000 (omega arith)
-word-in-pair {voids = voids} negative = down-allowed voids negativeZero (omega arith) (λ q. omega arith)
+word-in-pair {voids = voids} second-zero = down-allowed voids negativeZero (omega arith) (λ q. omega arith)
 
 pub height-in-pair : {voids : Bool} {w : ℕ} {z : ℤ} → Pair voids w z → heightAllowed voids z ≡ true
 unfolding heightAllowed
@@ -60,7 +60,7 @@ height-in-pair (void v) = v
 height-in-pair (up n h) = up-in-range n ∙ le-leb n 9000 h
 height-in-pair (down w n e h) =
     rw (not-void (negsuc n) (λ q. let m : n ≡ voidDepth - 1 = cc in omega arith)) (down-in-range (suc n) ∙ le-leb (suc n) 12000 h)
-height-in-pair negative = up-in-range 0
+height-in-pair second-zero = up-in-range 0
 
 -- every allowed word has its height
 pub pair-of-word : (voids : Bool) (w : ℕ) → wordAllowed voids w ≡ true → Pair voids w (formOf (postOf w))
@@ -73,7 +73,7 @@ pair-of-word voids w a =
             | yes h ↦ rw (up-post w h) (up w (leb-true w 9000 (sym (up-allowed voids w h) ∙ a)))
             | no h ↦
                 elim (ℕ-discrete w 0x8000) [
-                  | yes e ↦ rw e negative
+                  | yes e ↦ rw e second-zero
                   | no o ↦
                       let m : w - 0x8000 ≡ suc (w - 0x8001) = omega arith in
                       let k : w - 0x8000 ≤ 12000 = leb-true (w - 0x8000) 12000 (sym (down-allowed voids w (omega arith) v) ∙ a) in

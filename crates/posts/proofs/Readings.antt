@@ -9,7 +9,7 @@ use Rattle.posts.specs.Words.{heightOf, postOf, inRange, wordAllowed, ne
 use Rattle.posts.specs.declared.Post.{Post}
 use Rattle.posts.specs.declared.Post.the-variants.{Height, Void}
 use Rattle.posts.proofs.PostWords.{up-in-range, down-in-range, up-post, down-post}
-use Rattle.posts.proofs.Pairs.{Pair, up, down, negative, pair-of-word}
+use Rattle.posts.proofs.Pairs.{Pair, up, down, second-zero, pair-of-word}
 use Rattle.posts.proofs.Pairs as pairs
 
 -- a height in range, or void where voids are allowed
@@ -24,7 +24,7 @@ of-pair (up n h) = rw (up-post n (omega arith)) (height (pos n) (up-in-range n �
 of-pair (down w n e h) =
     let m : w - 0x8000 ≡ suc n = omega arith in
     rw (down-post w (omega arith) (λ q. omega arith), m) (height (negsuc n) (down-in-range (suc n) ∙ le-leb (suc n) 12000 h))
-of-pair negative = rw (down-post negativeZero (omega arith) (λ q. omega arith)) (height (pos 0) (up-in-range 0))
+of-pair second-zero = rw (down-post negativeZero (omega arith) (λ q. omega arith)) (height (pos 0) (up-in-range 0))
 
 -- an allowed word reads as one of the two
 pub reads : (voids : Bool) (w : ℕ) → wordAllowed voids w ≡ true → Reads voids (postOf w)

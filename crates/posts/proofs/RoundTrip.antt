@@ -6,7 +6,7 @@ use mathlib.Core.Bool.{Bool, true, false}
 use lib.IntN.{ℤ, pos, negsuc}
 use Rattle.posts.specs.Words.{postOf, wordAllowed, negativeZero}
 use Rattle.posts.specs.Heights.{formOf, heightAllowed, wordOf}
-use Rattle.posts.proofs.Pairs.{Pair, void, up, down, negative, word-of-pair, written-other, form-of-pair, word-in-pair, height-in-pair, pair-of-word, pair-of-height}
+use Rattle.posts.proofs.Pairs.{Pair, void, up, down, second-zero, word-of-pair, written-other, form-of-pair, word-in-pair, height-in-pair, pair-of-word, pair-of-height}
 
 -- a height's word has 16 bits
 pub word-fits : (z : ℤ) → wordOf z < 65536
@@ -19,7 +19,7 @@ fits-in-pair : {voids : Bool} {w : ℕ} {z : ℤ} → Pair voids w z → w < 655
 fits-in-pair (void v) = omega arith
 fits-in-pair (up n h) = omega arith
 fits-in-pair (down w n e h) = omega arith
-fits-in-pair negative = omega arith
+fits-in-pair second-zero = omega arith
 
 pub allowed-fits : (voids : Bool) (w : ℕ) → wordAllowed voids w ≡ true → w < 65536
 allowed-fits voids w a = fits-in-pair (pair-of-word voids w a)
@@ -37,8 +37,8 @@ pub height-back : (voids : Bool) (z : ℤ) → heightAllowed voids z ≡ true �
 height-back voids z a = form-of-pair (pair-of-height voids z a)
 
 -- and is written as another word than 8000 hex
-pub never-negative : (voids : Bool) (z : ℤ) → heightAllowed voids z ≡ true → wordOf z ≡ negativeZero → ⊥
-never-negative voids z a = written-other (pair-of-height voids z a)
+pub never-negative-zero : (voids : Bool) (z : ℤ) → heightAllowed voids z ≡ true → wordOf z ≡ negativeZero → ⊥
+never-negative-zero voids z a = written-other (pair-of-height voids z a)
 
 -- what an allowed height is written as may be read
 pub word-allowed : (voids : Bool) (z : ℤ) → heightAllowed voids z ≡ true → wordAllowed voids (wordOf z) ≡ true
@@ -49,7 +49,7 @@ more : {voids : Bool} {w : ℕ} {z : ℤ} → Pair voids w z → Pair true w z
 more (void v) = void refl
 more (up n h) = up n h
 more (down w n e h) = down w n e h
-more negative = negative
+more second-zero = second-zero
 
 -- a word allowed where voids are not is allowed where they are
 pub voids-more : (w : ℕ) → wordAllowed false w ≡ true → wordAllowed true w ≡ true

@@ -17,7 +17,8 @@ use Rattle.octets.proofs.ChoiceLaws.{by-equal}
 use Rattle.octets.proofs.JoinedLaws.{length-listed, getD-listed, listed-is, length-part, getD-part, part-within}
 use Rattle.octets.proofs.ListLaws.{mapped}
 use Rattle.octets.proofs.WordLaws.{length-words, Fit, word-there}
-use Rattle.posts.specs.Heights.{wordOf}
+use Rattle.posts.specs.Words.{inRange}
+use Rattle.posts.specs.Heights.{heightAllowed, wordOf}
 use Rattle.sources.specs.Heights.{Heights, numbers, inBytes, countOf, nthHeight, heightsOf, heightsInBytes, Counts, counts, heightWords, twosOf, twosWord, bytesFor}
 use Rattle.sources.proofs.TwosWords.{twos-back}
 
@@ -43,9 +44,14 @@ pub bytes-counted : (bs : List ℕ) (n : ℕ) → (counts (inBytes bs) n ≡ tru
 bytes-counted bs n = (counts-only (inBytes bs) n, counts-if (inBytes bs) n)
 
 -- B2 by an example: the high byte first, and the sign bit in it
-pub high-byte-first : heightsInBytes (0x01 ∷ 0x02 ∷ 0xFF ∷ 0xFE ∷ []) ≡ pos 258 ∷ negsuc 1 ∷ []
+pub high-byte-first : heightsInBytes (0x01 ∷ 0x02 ∷ 0xFF ∷ 0xFE ∷ 0x80 ∷ 0x00 ∷ []) ≡ pos 258 ∷ negsuc 1 ∷ negsuc 32767 ∷ []
 unfolding listed twosOf value
 high-byte-first = refl
+
+-- and 80 00 is no height there, though a cell may hold that word
+pub lowest-refused : (voids : Bool) → heightAllowed voids (twosOf 0x8000) ≡ false
+unfolding heightAllowed inRange twosOf
+lowest-refused voids = refl
 
 pub counted : (g : Heights) (n : ℕ) → Counts g n → countOf g ≡ n
 counted (numbers zs) n e = e
