@@ -3,11 +3,11 @@ use Prim.Native.Nat.{ℕ, _+_, _*_, _<_}
 use native.Mathlib.Omega.{arith}
 use mathlib.Core.Path.{_≡_, sym, ap, _∙_}
 use mathlib.Core.List.{List, _++_}
-use lib.ListN.{length, getD, take, drop, length-append}
-use lib.Seq.{drop-append-add}
-use Rattle.octets.specs.Parts.{part}
+use lib.ListN.{length, getD, take, drop, length-append, length-drop, take-append-drop}
+use lib.Seq.{drop-drop, drop-append-add}
+use Rattle.octets.specs.Parts.{part, joined}
 use Rattle.octets.specs.Pastes.{pasted}
-use Rattle.octets.proofs.JoinedLaws.{length-listed, getD-listed, length-part, getD-part, length-joined, part-joined, replaced-joined, paste-append}
+use Rattle.octets.proofs.JoinedLaws.{length-listed, getD-listed, length-part, getD-part, joined-all, length-joined, part-joined, replaced-joined, paste-append}
 use Rattle.layout.specs.Grid.{headerBytes}
 use Rattle.layout.specs.declared.Grid.{Grid}
 use Rattle.layout.specs.Ranges.{Ranged}
@@ -15,6 +15,17 @@ use Rattle.columns.specs.Column.{columnOfWords, wordIn, wordsIn}
 use Rattle.columns.proofs.ColumnWords.{length-column}
 use Rattle.cells.specs.Cell.{startOf, columnAt}
 use Rattle.cells.specs.Words.{columnsOfWords, cellOfWords, wordsUnder}
+
+-- bytes as long as a grid makes them are their room for headers and their columns
+pub by-columns : (g : Grid) (s : List ℕ) → length s ≡ headerBytes + g .columns * g .bytes .column
+    → (f : ℕ → List ℕ) → ((k : ℕ) → k < g .columns → f k ≡ columnAt s g k) → take headerBytes s ++ joined f (g .columns) ≡ s
+by-columns g s long f same =
+    let width = g .bytes .column in
+    let all =
+    joined-all width f (drop headerBytes s) (g .columns) (rw length-drop (omega arith))
+    (λ k h. same k h ∙ ap (take width) (sym (drop-drop (k * width) headerBytes s)))
+    in
+    rw all (take-append-drop headerBytes s)
 
 -- the words that stand under a grid, whatever the bytes are: as many as it has posts, column by column and one by one
 module _ (g : Grid) (s : List ℕ) where

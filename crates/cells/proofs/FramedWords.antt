@@ -4,8 +4,8 @@ use native.Mathlib.Omega.{arith}
 use mathlib.Core.Path.{_≡_, sym, ap, _∙_}
 use mathlib.Core.Bool.{true}
 use mathlib.Core.List.{List}
-use lib.ListN.{length, take, drop, set, length-drop, length-set, take-append-drop}
-use lib.Seq.{drop-drop, length-take-le}
+use lib.ListN.{length, take, set, length-set}
+use lib.Seq.{length-take-le}
 use Rattle.octets.specs.Numbers.{Bytes}
 use Rattle.octets.specs.Parts.{part}
 use Rattle.octets.specs.Pastes.{pasted}
@@ -20,7 +20,7 @@ use Rattle.columns.specs.Column.{columnOfWords, wordIn, wordsIn, GoodColumn, Al
 use Rattle.columns.proofs.ColumnWords.{column-is, words-good, words-back, allowed-fit, good-allowed}
 use Rattle.cells.specs.Cell.{startOf, columnAt, Framed}
 use Rattle.cells.specs.Words.{cellOfWords, wordsUnder}
-use Rattle.cells.proofs.ColumnParts.{length-under, part-under, length-cell, column-there, column-replaced}
+use Rattle.cells.proofs.ColumnParts.{by-columns, length-under, part-under, length-cell, column-there, column-replaced}
 
 -- a grid in range, room for headers, and a word for each post that the frame allows
 pub record Made (f : Frame) (h ws : List ℕ) : Type 0 where
@@ -106,17 +106,10 @@ module _ (f : Frame) (in-range : Ranged (f .grid)) (s : List ℕ) (framed : Fram
   pub framed-is : Bytes s → cellOfWords (take headerBytes s) (f .grid) (wordsUnder (f .grid) s) ≡ s
   framed-is bytes =
       let g = f .grid in
-      let rest = drop headerBytes s in
-      let width = g .bytes .column in
-      let all =
-      joined-all width (λ (k : ℕ). columnOfWords k (part (g .posts) (wordsUnder g s) k)) rest (g .columns)
-      (rw length-drop (omega (arith, framed .long, in-range .cell)))
+      by-columns g s (omega (arith, framed .long, in-range .cell)) (λ (k : ℕ). columnOfWords k (part (g .posts) (wordsUnder g s) k))
       (λ k h.
       ap (columnOfWords k) (part-under g s k h)
-      ∙ column-is (columnAt s g k) k (g .posts) (part-bytes s (startOf g k) width bytes) (framed .columns k h .long) (framed .columns k h .right)
-      ∙ ap (take width) (sym (drop-drop (k * width) headerBytes s)))
-      in
-      rw all (take-append-drop headerBytes s)
+      ∙ column-is (columnAt s g k) k (g .posts) (part-bytes s (startOf g k) (g .bytes .column) bytes) (framed .columns k h .long) (framed .columns k h .right))
 
   -- one good column in the place of another is that column's words replaced
   module _ (c : ℕ) (u : c < f .grid .columns) (column : List ℕ) (good : GoodColumn column c (f .grid .posts) (f .voids)) where

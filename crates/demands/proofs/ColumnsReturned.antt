@@ -5,8 +5,8 @@ use native.Mathlib.Omega.{arith}
 use mathlib.Core.Path.{_≡_, sym, ap, _∙_}
 use mathlib.Core.List.{List, _++_}
 use lib.IntN.{ℤ}
-use lib.ListN.{length, take, drop, length-drop, take-append-drop}
-use lib.Seq.{take-at, drop-drop}
+use lib.ListN.{length, take, drop}
+use lib.Seq.{take-at}
 use contract.Lifetimes as L
 use denote.Ref.{now}
 use borrow.Fn.Kinds as K
@@ -16,7 +16,6 @@ use Rattle.answers.proofs.Injective.{told-injective}
 use Rattle.host_answers.specs.Packed.{packed}
 use Rattle.octets.specs.Numbers.{Bytes}
 use Rattle.octets.specs.Parts.{joined}
-use Rattle.octets.proofs.JoinedLaws.{joined-all}
 use Rattle.layout.specs.Levels.{postsOf}
 use Rattle.layout.specs.Grid.{headerBytes}
 use Rattle.layout.specs.declared.Grid.{Grid}
@@ -24,6 +23,7 @@ use Rattle.headers.specs.Judged.{factsIn}
 use Rattle.columns.specs.Column.{wordsIn, heightsIn, Plain}
 use Rattle.cells.specs.Cell.{columnAt, Cell}
 use Rattle.cells.specs.Words.{wordsOfCell}
+use Rattle.cells.proofs.ColumnParts.{by-columns}
 use Rattle.cells.proofs.MadeCells.{cell-facts}
 use Rattle.cells.proofs.OwnGrid.{column-plain}
 use Rattle.column_writer.specs.Column.{columnTold, columnOutput}
@@ -86,10 +86,5 @@ module _ (l : List ℕ) (cell : Cell l) (bytes : Bytes l) where
   cell-returned plain left out put =
       let size = g .bytes .column in
       let in-range = cell-facts l cell .grid in
-      let all =
-      joined-all size (λ (k : ℕ). take size (left k)) (drop headerBytes l) (g .columns) (rw length-drop (omega (arith, cell .framed .long, in-range .cell)))
-      (λ k h.
-      let long = cell .framed .columns k h .long ∙ sym (in-range .column) in
-      ap (take size) (put k h (column-plain l plain k h)) ∙ take-at (columnAt l g k) (drop size (out k)) size long ∙ ap (take size) (sym (drop-drop (k * size) headerBytes l)))
-      in
-      rw all (take-append-drop headerBytes l)
+      by-columns g l (omega (arith, cell .framed .long, in-range .cell)) (λ (k : ℕ). take size (left k))
+      (λ k h. ap (take size) (put k h (column-plain l plain k h)) ∙ take-at (columnAt l g k) (drop size (out k)) size (cell .framed .columns k h .long ∙ sym (in-range .column)))

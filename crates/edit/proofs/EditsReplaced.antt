@@ -5,14 +5,14 @@ use mathlib.Core.Path.{_≡_, refl, sym, ap, _∙_}
 use mathlib.Core.Bool.{true, false}
 use mathlib.Core.List.{List, [], _∷_, _++_, map}
 use lib.Dec.{eqb}
-use lib.ListN.{length, getD, take, drop, set, length-drop, take-append-drop}
-use lib.Seq.{take-at, drop-drop, getD-set-same, getD-set-other}
+use lib.ListN.{length, getD, take, drop, set}
+use lib.Seq.{take-at, getD-set-same, getD-set-other}
 use borrow.Author.Tests.{eqb-true, eq-eqb}
 use Rattle.octets.specs.Choice.{pick, both}
 use Rattle.octets.specs.Numbers.{Bytes, bytesOf, bytesOfWords}
 use Rattle.octets.specs.Parts.{part, joined}
 use Rattle.octets.proofs.ChoiceLaws.{by-test, both-true, both-is, either-first, clash}
-use Rattle.octets.proofs.JoinedLaws.{part-within, places-apart, length-part, getD-part, joined-all, joined-same}
+use Rattle.octets.proofs.JoinedLaws.{part-within, places-apart, length-part, getD-part, joined-same}
 use Rattle.octets.proofs.WordLaws.{words-joined}
 use Rattle.layout.specs.Grid.{headerBytes}
 use Rattle.layout.specs.declared.Frame.{Frame}
@@ -23,7 +23,7 @@ use Rattle.columns.specs.Column.{sealed, columnOfWords, wordAt}
 use Rattle.columns.proofs.ColumnWords.{preamble-front, post-bytes}
 use Rattle.cells.specs.Cell.{columnAt, Cell}
 use Rattle.cells.specs.Words.{columnsOfWords, cellOfWords, wordsOfCell}
-use Rattle.cells.proofs.ColumnParts.{column-there}
+use Rattle.cells.proofs.ColumnParts.{by-columns, column-there}
 use Rattle.cells.proofs.FramedWords.{Made}
 use Rattle.cells.proofs.MadeCells.{cell-made, cell-remade}
 use Rattle.edit.specs.Sequence.{Call, takes, afterEdits, wordsAfter}
@@ -140,10 +140,4 @@ edits-replaced s cell bytes es =
 -- where no call was done nothing is replaced, whatever the bytes are
 pub none-replaced : (g : Grid) (s : List ℕ) → length s ≡ headerBytes + g .columns * g .bytes .column → withReplaced g s [] ≡ s
 unfolding withReplaced columnGiven namesColumn
-none-replaced g s long =
-    let size = g .bytes .column in
-    let all =
-    joined-all size (columnAt s g) (drop headerBytes s) (g .columns) (rw length-drop (omega arith))
-    (λ k h. ap (take size) (sym (drop-drop (k * size) headerBytes s)))
-    in
-    rw all (take-append-drop headerBytes s)
+none-replaced g s long = by-columns g s long (columnAt s g) (λ k h. refl)
