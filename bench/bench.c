@@ -39,11 +39,11 @@ static const struct calls sets[] = {
 };
 enum { SET_COUNT = sizeof sets / sizeof *sets };
 
-/* The other archive may be one that refuses the word 8000. */
+/* The sets that are compared on cells with the word 8000: the other archive, the last one, may refuse them. */
 #ifdef WITH_OLD
-enum { TAKE_ZEROS = SET_COUNT - 1 };
+enum { NEGATIVE_ZERO_SETS = SET_COUNT - 1 };
 #else
-enum { TAKE_ZEROS = SET_COUNT };
+enum { NEGATIVE_ZERO_SETS = SET_COUNT };
 #endif
 
 static const int64_t items[DTED_ITEMS] = {
@@ -393,7 +393,7 @@ int main(void) {
     make_cell();
     make_picks();
     for (size_t i = 1; i < SET_COUNT; i++)
-        compared += compare(&sets[0], &sets[i], cell, out, length, i < TAKE_ZEROS);
+        compared += compare(&sets[0], &sets[i], cell, out, length, i < NEGATIVE_ZERO_SETS);
     if (gdal_version())
         check_gdal();
     print_heading(compared);

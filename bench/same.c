@@ -12,7 +12,7 @@ enum { SMALL_ROOM = 34162, SMALL_GRID = 2 * 121 * 121, TRIES = 20000, LEVELS = 3
 static const struct calls *one, *two;
 static size_t compared;
 static uint64_t seed;
-static bool zeros; /* whether cells with the word 8000 are tried */
+static bool negative_zeros; /* whether cells with the word 8000 are tried */
 
 /* A small cell with its grid, and what both sets of calls made of it. */
 static int64_t items[DTED_ITEMS];
@@ -285,7 +285,7 @@ static void put_sum(uint8_t *column) {
         column[column_bytes - 1 - i] = (uint8_t)(sum >> 8 * i);
 }
 
-static bool has_zero(const uint8_t *column) {
+static bool has_negative_zero(const uint8_t *column) {
     bool found = false;
     for (size_t at = DTED_PREAMBLE_BYTES; at < column_bytes - 4; at += 2)
         found |= column[at] == 0x80 && column[at + 1] == 0;
@@ -307,7 +307,7 @@ static void compare_damage(void) {
     }
     if (below(4))
         put_sum(column);
-    if (zeros || !has_zero(column)) {
+    if (negative_zeros || !has_negative_zero(column)) {
         same_intake(first, length);
         same_post(first, length, k, below(123));
     }
@@ -321,13 +321,15 @@ static void compare_cuts(void) {
     same_post(first, bytes, next_random(&seed) << 16, next_random(&seed) << 16);
 }
 
-/* Height 0 by the word 8000, which no writer gives, at some posts of both small cells. */
-static void put_zeros(void) {
+/* Height 0 by the word 8000, which no writer gives, put at some posts of both small cells, and what then is answered. */
+static void compare_negative_zeros(void) {
     for (size_t k = 0; k < columns; k++) {
         uint8_t *column = first + DTED_HEADER_BYTES + k * column_bytes;
         for (size_t at = DTED_PREAMBLE_BYTES; at < column_bytes - 4; at += 2)
-            if (below(8) == 0)
-                memcpy(column + at, "\x80", 2);
+            if (below(8) == 0) {
+                column[at] = 0x80;
+                column[at + 1] = 0x00;
+            }
         put_sum(column);
     }
     memcpy(second, first, length);
@@ -373,10 +375,11 @@ static void compare_large(const uint8_t *cell, uint8_t *spare, size_t bytes) {
     compare_voids(spare, bytes);
 }
 
-size_t compare(const struct calls *a, const struct calls *b, const uint8_t *large, uint8_t *spare, size_t bytes, bool with_zeros) {
+size_t compare(const struct calls *a, const struct calls *b, const uint8_t *large, uint8_t *spare, size_t bytes,
+               bool with_negative_zeros) {
     one = a;
     two = b;
-    zeros = with_zeros;
+    negative_zeros = with_negative_zeros;
     compared = 0;
     seed = 20261115;
     compare_items();
@@ -390,8 +393,8 @@ size_t compare(const struct calls *a, const struct calls *b, const uint8_t *larg
             compare_damage();
             compare_cuts();
         }
-        if (zeros && latitude % 2 == 0)
-            put_zeros();
+        if (negative_zeros && latitude % 2 == 0)
+            compare_negative_zeros();
         for (int i = 0; i < TRIES / 180; i++)
             compare_edits();
     }

@@ -166,7 +166,7 @@ static uint8_t *column_of(struct cell *cell, size_t k) {
 }
 
 /* Height 0 by its other word, 8000, which no writer gives: in no column, in every one or in half of them, at all posts or at half. */
-static void other_zeros(struct random *random, struct cell *cell, size_t made) {
+static void negative_zeros(struct random *random, struct cell *cell, size_t made) {
     uint64_t kind = random_below(random, 4);
     for (size_t k = 0; k < made; k++) {
         uint8_t *words = column_of(cell, k) + 8;
@@ -196,7 +196,7 @@ void cell_make(struct random *random, const int64_t *items, size_t columns_made,
     for (size_t k = 0; k < made; k++)
         second_write_column(column_of(cell, k), cell->column_bytes, (uint64_t)items[0], k, cell->grid + 2 * k * cell->posts,
                             2 * cell->posts);
-    other_zeros(random, cell, made);
+    negative_zeros(random, cell, made);
 }
 
 void cell_free(struct cell *cell) {

@@ -298,13 +298,13 @@ static void put_height(struct cell *cell, uint64_t column, uint64_t post, int64_
     word[1] = (uint8_t)((uint64_t)height & 0xFF);
 }
 
-static bool is_other_zero(const uint8_t *word) {
+static bool is_negative_zero(const uint8_t *word) {
     return word[0] == 0x80 && word[1] == 0;
 }
 
-static bool has_other_zero(const uint8_t *column, size_t posts) {
+static bool has_negative_zero(const uint8_t *column, size_t posts) {
     size_t p = 0;
-    while (p < posts && !is_other_zero(column + 8 + 2 * p))
+    while (p < posts && !is_negative_zero(column + 8 + 2 * p))
         p++;
     return p < posts;
 }
@@ -316,10 +316,10 @@ static uint64_t edits_of_zeros, edits_beside_zeros;
 static void edit_made(struct cell *cell, uint64_t column, uint64_t post, int64_t height) {
     uint8_t *start = cell->bytes + CELL_HEADERS + column * cell->column_bytes, *word = start + 8 + 2 * post;
     uint64_t size = (uint64_t)(height < 0 ? -height : height);
-    edits_of_zeros += is_other_zero(word);
+    edits_of_zeros += is_negative_zero(word);
     word[0] = (uint8_t)(size / 256 + (height < 0 ? 128 : 0));
     word[1] = (uint8_t)(size % 256);
-    edits_beside_zeros += has_other_zero(start, cell->posts);
+    edits_beside_zeros += has_negative_zero(start, cell->posts);
     cell_mend_checksum(cell, column);
     put_height(cell, column, post, height);
 }
@@ -327,13 +327,14 @@ static void edit_made(struct cell *cell, uint64_t column, uint64_t post, int64_t
 /* The bytes are the old ones but for the edited words and their columns' checksums. A column without the word 8000 is the one that is
  * written afresh from its heights; one with it is not, since writers write 0000. */
 static void expect_edited(const struct cell *cell) {
-    uint8_t afresh[7214];
+    uint8_t afresh[DTED_LONGEST_COLUMN];
     expect("the old bytes, edited words and checksums", memcmp(both_cell(), cell->bytes, cell->length) != 0, 0);
     for (size_t k = 0; k < cell->columns; k++) {
         const uint8_t *column = both_cell() + CELL_HEADERS + k * cell->column_bytes;
-        second_write_column(afresh, sizeof afresh, (uint64_t)cell->items[DTED_LEVEL], k, cell->grid + 2 * k * cell->posts,
-                            2 * cell->posts);
-        expect("a column written afresh", memcmp(column, afresh, cell->column_bytes) == 0, !has_other_zero(column, cell->posts));
+        uint64_t answer = second_write_column(afresh, sizeof afresh, (uint64_t)cell->items[DTED_LEVEL], k,
+                                              cell->grid + 2 * k * cell->posts, 2 * cell->posts);
+        expect("a column is written", answer, 0);
+        expect("a column written afresh", memcmp(column, afresh, cell->column_bytes) == 0, !has_negative_zero(column, cell->posts));
     }
 }
 
@@ -341,8 +342,8 @@ static void expect_edited(const struct cell *cell) {
 static void zeros_case(const void *context) {
     uint64_t cases = *(const uint64_t *)context;
     name_case("edits that met the word 8000");
-    expect("edits of such posts", edits_of_zeros >= cases / 100, 1);
-    expect("edits beside such posts", edits_beside_zeros >= cases / 100, 1);
+    expect("edits of such posts", edits_of_zeros > cases / 100, 1);
+    expect("edits beside such posts", edits_beside_zeros > cases / 100, 1);
 }
 
 static void edit_often(struct random *random, struct cell *cell, int edits) {
@@ -557,7 +558,8 @@ int main(int count, char **texts) {
     for (size_t f = 0; f < CELL_FIELDS; f++)
         run_case(spoiled_field_case, &f);
     run_case(seen_case, NULL);
-    run_case(zeros_case, &cases);
+    if (cases >= 100) /* fewer may not meet one */
+        run_case(zeros_case, &cases);
     cell_free(&cell);
     cell_free(&kept);
     printf("%" PRIu64 " passed, %" PRIu64 " failed\n", passed, failed);

@@ -82,7 +82,7 @@ static const struct word_example {
     {0x80, 0x00, 1, 0, 0},
 };
 
-/* M6, M7, M8, void in a complete cell, and both words of height 0. */
+/* M6, M7, M8, M13, void in a complete cell, and the other word of height 0. */
 static void word_case(const void *context) {
     const struct word_example *example = context;
     name_case("word %02X%02X", example->high, example->low);

@@ -64,7 +64,7 @@ module _ (k posts : ℕ) (voids : Bool) (zs : List ℤ) (long : length zs ≡ po
   pub written-good : k < 65536 → posts ≤ 8000000 → GoodColumn (columnOf k zs) k posts voids
   written-good small few = words-good k posts voids (wordsOf zs) small few (length-map zs wordOf ∙ long) (words-allowed voids zs held)
 
--- P6, and the one law here that rests on it: plain words that a cell may hold are the writer's words of what they say, and no others are
+-- P6: plain words that a cell may hold are the writer's words of what they say, and no others are
 pub words-written : (voids : Bool) (ws : List ℕ) → Allowed voids ws → Plain ws → wordsOf (map saidBy ws) ≡ ws
 words-written voids ws allowed plain = there-back saidBy wordOf ws 0 (λ i h. word-back voids (getD ws i 0) (allowed i h) (plain i h))
 

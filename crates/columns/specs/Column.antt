@@ -75,6 +75,6 @@ pub record GoodColumn (s : List ℕ) (k posts : ℕ) (voids : Bool) : Type 0 whe
 abbrev pub Allowed : Bool → List ℕ → Type 0
 Allowed voids ws = (i : ℕ) → i < length ws → wordAllowed voids (getD ws i 0) ≡ true
 
--- P6: and none of them is the second word of height 0, so that each is the writer's
+-- P4, P6: none of a list of words is 8000 hex; where they are allowed too, each is the writer's
 abbrev pub Plain : List ℕ → Type 0
 Plain ws = (i : ℕ) → i < length ws → getD ws i 0 ≡ negativeZero → ⊥

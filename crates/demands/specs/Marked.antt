@@ -42,9 +42,9 @@ pub data Input : Type 0 where
   -- the checksum after these bytes, and of the column with this number and these heights
   checksum : List ℕ → Input
   column : ℕ → List ℤ → Input
-  -- a column of so many posts, these bytes and their checksum, and its words with its checksum: once a post is edited to a height
+  -- these bytes and their checksum as a column of so many posts, with this post edited to this height: its words then, and its checksum
   edited : List ℕ → ℕ → ℕ → ℤ → Input
-  -- and as they are written afresh from what its posts then say
+  -- the same, written afresh from what the posts then say
   afresh : List ℕ → ℕ → ℕ → ℤ → Input
   -- the post nearest a position, in tenths north and east of an origin so many degrees north and east
   nearest : ℕ → ℕ → ℕ → ℕ → ℕ → Input

@@ -27,7 +27,7 @@ word-of-pair (up n h) other = mod-eq-of-lt (omega arith)
 word-of-pair (down w n e h) other = omega arith
 word-of-pair second-zero other = absurd (other refl)
 
--- which it is not
+-- and no height's word is that one
 pub written-other : {voids : Bool} {w : ℕ} {z : ℤ} → Pair voids w z → wordOf z ≡ negativeZero → ⊥
 unfolding wordOf
 written-other (void v) e = omega arith
