@@ -2,7 +2,8 @@
 use Prim.Native.Nat.{ℕ, _<_, _≤_}
 use native.Mathlib.Omega.{arith}
 use mathlib.Core.Path.{_≡_, sym, ap, subst, _∙_}
-use mathlib.Core.Bool.{Bool, true, false}
+use mathlib.Core.Bool.{Bool, false}
+use lib.ListN.{length}
 use borrow.Author.Tests.{le-leb, lt-leb}
 use Rattle.octets.proofs.ChoiceLaws.{by-test, by-order}
 use Rattle.octets.proofs.SearchLaws.{Before, first-found, none-found, search-same, Searched, all, first, searched}
@@ -10,6 +11,7 @@ use Rattle.posts.specs.Heights.{heightAllowed}
 use Rattle.answers.specs.declared.Refusal.the-variants.{GridLength, Height, Room}
 use Rattle.answers.specs.declared.Outcome.{Outcome}
 use Rattle.answers.specs.declared.Outcome.the-variants.{Done, Refused}
+use Rattle.columns.proofs.ColumnHeights.{Held}
 use Rattle.sources.specs.Heights.{Heights, numbers, nthHeight, heightsOf, Counts, counts}
 use Rattle.sources.proofs.HeightLaws.{counts-if, counts-only, not-counted, never-counted, counted, heights-counted, height-listed}
 use Rattle.column_writer.specs.Judged.{heightsThen, roomFor, judgedPosts}
@@ -85,3 +87,12 @@ is-fine posts bytes voids g room _ (fine l f h) e = record { long = l; held = f;
 
 pub posts-fine : (posts bytes : ℕ) (voids : Bool) (g : Heights) (room : ℕ) → judgedPosts posts bytes voids g room ≡ Done → Fine posts bytes voids g room
 posts-fine posts bytes voids g room e = is-fine posts bytes voids g room _ (posts-row posts bytes voids g room) e
+
+-- then there are as many heights as posts are due, and each may be held
+module _ (posts bytes : ℕ) (voids : Bool) (g : Heights) (room : ℕ) (given : Fine posts bytes voids g room) where
+  pub fine-long : length (heightsOf g) ≡ posts
+  fine-long = heights-counted g ∙ counted g posts (given .long)
+
+  pub fine-held : Held voids (heightsOf g)
+  fine-held i h =
+      ap (heightAllowed voids) (height-listed g i (subst (λ (n : ℕ). i < n) (heights-counted g) h)) ∙ given .held i (subst (λ (n : ℕ). i < n) fine-long h)

@@ -1,6 +1,6 @@
 -- X1 and P6 over the column writers' own promises, inner and exported: a call that was done leaves the writer's words of its heights, none of them 8000 hex.
 use Prim.Native.Nat.{ℕ, _<_}
-use mathlib.Core.Path.{_≡_, sym, ap, subst, _∙_}
+use mathlib.Core.Path.{_≡_, sym, subst, _∙_}
 use mathlib.Core.Bool.{true}
 use mathlib.Core.List.{List, _++_}
 use lib.IntN.{ℤ}
@@ -19,15 +19,16 @@ use Rattle.answers.specs.declared.Outcome.{Outcome}
 use Rattle.answers.specs.declared.Outcome.the-variants.{Done}
 use Rattle.answers.proofs.Injective.{told-injective}
 use Rattle.layout.specs.Levels.{postsOf}
-use Rattle.posts.specs.Heights.{heightAllowed, wordOf}
+use Rattle.posts.specs.Heights.{wordOf}
 use Rattle.columns.specs.Column.{preamble, sealed, columnOfWords, wordsOf, columnOf, wordIn, wordsIn, Plain}
 use Rattle.columns.proofs.ColumnWords.{length-preamble, allowed-fit}
 use Rattle.columns.proofs.ColumnHeights.{Held, words-allowed, words-plain}
 use Rattle.sources.specs.Heights.{Heights, numbers, inBytes, heightsOf, heightsInBytes}
-use Rattle.sources.proofs.HeightLaws.{counted, heights-counted, height-listed, numbers-are}
+use Rattle.sources.proofs.HeightLaws.{numbers-are}
 use Rattle.column_writer.specs.Column.{judgedColumnWrite, columnToldFrom, columnOutputFrom, columnTold, columnOutput}
 use Rattle.column_writer.specs.Judged.{outputAfter}
 use Rattle.column_writer.proofs.ColumnExactly.{ready}
+use Rattle.column_writer.proofs.PostsExactly.{fine-long, fine-held}
 use Rattle.column_writer.proofs.write.Reads as write-column
 use Rattle.column_writer.proofs.write.Kinds as write-column-kinds
 use Rattle.dted.proofs.writers.dted_write_column.Reads as host-write-column
@@ -60,12 +61,8 @@ done-put level number g out done =
     let zs = heightsOf g in
     let column = columnOf number zs in
     let fine = ready level number g (length out) done .fine in
-    let long : length zs ≡ postsOf level = heights-counted g ∙ counted g (postsOf level) (fine .long) in
-    let held : Held true zs = λ i h.
-    ap (heightAllowed true) (height-listed g i (subst (λ (n : ℕ). i < n) (heights-counted g) h)) ∙ fine .held i (subst (λ (n : ℕ). i < n) long h)
-    in
     subst (λ (x : Outcome). Put (postsOf level) zs (outputAfter x column out)) (sym done)
-    (subst (λ (n : ℕ). Put n zs (outputAfter Done column out)) long (column-put number zs (drop (length column) out) held))
+    (subst (λ (n : ℕ). Put n zs (outputAfter Done column out)) (fine-long _ _ _ _ _ fine) (column-put number zs (drop (length column) out) (fine-held _ _ _ _ _ fine)))
 
 -- the column writer over heights
 pub column-words : (κs : L.Lfts 2) (a : K.Dens κs write-column-kinds.ps) (r : _) (s : _) → write-column.Post κs a r s → r ≡ Done

@@ -1,6 +1,6 @@
 -- D2 for a C host: what a call of the writer leaves, where it answered 0, is read back whole by any later call.
 use Prim.Native.Nat.{ℕ, _<_}
-use mathlib.Core.Path.{_≡_, sym, ap, subst, _∙_}
+use mathlib.Core.Path.{_≡_, sym, ap, _∙_}
 use mathlib.Core.List.{List, _++_}
 use lib.IntN.{ℤ}
 use lib.ListN.{length, drop}
@@ -18,11 +18,10 @@ use Rattle.intake.specs.Intake.{taken}
 use Rattle.lookup.specs.Lookup.{heightSaid, lookedUp}
 use Rattle.cell_writer.specs.Cell.{postsDue, frameFor, cellOf}
 use Rattle.column_writer.specs.Judged.{outputAfter}
+use Rattle.column_writer.proofs.PostsExactly.{fine-long, fine-held}
 use Rattle.cells.specs.Grid.{heightAt}
 use Rattle.cell_writer.proofs.Restores.{written-plain, restored-description, restored-accepted, restored-post}
-use Rattle.sources.specs.Heights.{inBytes, heightsInBytes}
-use Rattle.sources.proofs.HeightLaws.{counted, heights-counted, height-listed}
-use Rattle.posts.specs.Heights.{heightAllowed}
+use Rattle.sources.specs.Heights.{heightsInBytes}
 use Rattle.columns.specs.Column.{Plain}
 use Rattle.columns.proofs.ColumnHeights.{Held}
 use Rattle.cells.specs.Words.{wordsOfCell}
@@ -60,15 +59,10 @@ module _ (κs : L.Lfts 3) (a : K.Dens κs write-kinds.ps) (r : _) (s : _) (kept 
   fine = ready items (now (a .1 .1 .0)) (length (now (a .0))) accepted-call
 
   all : length heights ≡ postsDue (frameFor (descriptionOf items) .grid)
-  all =
-      let g = inBytes (now (a .1 .1 .0)) in
-      heights-counted g ∙ counted g (postsDue (frameFor (descriptionOf items) .grid)) (fine .fine .long)
+  all = fine-long _ _ _ _ _ (fine .fine)
 
   held : Held (frameFor (descriptionOf items) .voids) heights
-  held i h =
-      let g = inBytes (now (a .1 .1 .0)) in
-      ap (heightAllowed (frameFor (descriptionOf items) .voids)) (height-listed g i (subst (λ (n : ℕ). i < n) (heights-counted g) h))
-      ∙ fine .fine .held i (subst (λ (n : ℕ). i < n) all h)
+  held = fine-held _ _ _ _ _ (fine .fine)
 
   -- the output begins with them, and past them is as it was
   pub written : now (s .0) ≡ cell ++ drop (length cell) (now (a .0))

@@ -18,7 +18,8 @@ use Rattle.layout.specs.Grid.{headerBytes}
 use Rattle.posts.specs.Words.{postOf, negativeZero}
 use Rattle.posts.specs.declared.Post.{Post}
 use Rattle.posts.specs.declared.Post.the-variants.{Height}
-use Rattle.posts.proofs.Readings.{Reads, negative-zero}
+use Rattle.posts.proofs.PostWords.{negative-zero}
+use Rattle.posts.proofs.Readings.{Reads}
 use Rattle.headers.specs.Judged.{factsIn, voidsAllowed}
 use Rattle.headers.proofs.Exactly.{follows-good}
 use Rattle.columns.specs.Column.{wordIn}

@@ -1,14 +1,22 @@
--- A cell may have 8000 hex for every post, and is then not its columns written afresh: what D3 and X2 say of those needs its condition.
-use Prim.Native.Nat.{ℕ, suc, _*_, _<_}
+-- A cell may have 8000 hex for every post, and is then not its columns written afresh: what D3 and X2 say of those needs its condition. Lookups
+-- answer 0 everywhere on it, and a call of the edit that was done, inner or exported, replaces its own word alone.
+use Prim.Native.Nat.{ℕ, suc, _+_, _*_, _<_}
 use native.Mathlib.Omega.{arith}
-use mathlib.Core.Path.{_≡_, sym, subst}
-use mathlib.Core.Bool.{true}
-use lib.ListN.{getD, take}
-use Rattle.octets.proofs.JoinedLaws.{length-listed, getD-listed}
+use mathlib.Core.Path.{_≡_, sym, ap, subst, _∙_}
+use mathlib.Core.Bool.{true, false}
+use mathlib.Core.List.{List, [], _∷_}
+use lib.IntN.{pos}
+use lib.ListN.{length, getD, take}
+use contract.Lifetimes as L
+use borrow.Fn.Kinds as K
+use Rattle.octets.specs.Numbers.{Bytes}
+use Rattle.octets.proofs.JoinedLaws.{length-listed, getD-listed, part-within}
+use Rattle.answers.specs.Told.{Told, height, heightAt}
+use Rattle.answers.specs.declared.Outcome.{Outcome}
 use Rattle.layout.specs.Grid.{headerBytes}
 use Rattle.posts.specs.Words.{wordAllowed, negativeZero}
-use Rattle.posts.proofs.Readings.{negative-zero}
-use Rattle.headers.specs.Judged.{frameIn}
+use Rattle.posts.proofs.PostWords.{negative-zero}
+use Rattle.headers.specs.Judged.{factsIn, frameIn}
 use Rattle.description.specs.Items.{inRange}
 use Rattle.description.specs.declared.Description.{Description}
 use Rattle.header_writer.specs.Written.{headersFor}
@@ -17,12 +25,21 @@ use Rattle.columns.specs.Column.{Plain}
 use Rattle.cells.specs.Cell.{Cell}
 use Rattle.cells.specs.Words.{wordsOfCell}
 use Rattle.cells.specs.Grid.{afresh, gridIn}
+use Rattle.cells.proofs.ColumnParts.{length-under, word-under}
 use Rattle.cells.proofs.FramedWords.{Made}
 use Rattle.cells.proofs.MadeCells.{headed-range, made-cell, made-words}
 use Rattle.cells.proofs.OwnGrid.{afresh-plain}
 use Rattle.cell_writer.specs.Cell.{postsDue, frameFor}
 use Rattle.cell_writer.proofs.WrittenCell.{written-headed}
+use Rattle.edit.specs.Replaced.{withReplaced}
+use Rattle.edit.proofs.edit.Reads as edit
+use Rattle.edit.proofs.edit.Kinds as kinds
+use Rattle.dted.proofs.cells.dted_edit.Reads as host-edit
+use Rattle.dted.proofs.cells.dted_edit.Kinds as host-kinds
 use Rattle.demands.specs.Sea.{seaWords, seaCell}
+use Rattle.demands.proofs.PostsAnswered.{storedAt, Answered, AnsweredNear}
+use Rattle.demands.proofs.EditedCells as inner
+use Rattle.demands.proofs.HostEdits as host
 
 module _ (d : Description) (e : inRange d ≡ true) where
   abbrev posts : ℕ
@@ -55,3 +72,36 @@ module _ (d : Description) (e : inRange d ≡ true) where
 
   pub sea-not-afresh : afresh (take headerBytes (seaCell d)) (frameIn (seaCell d) .grid) (gridIn (seaCell d)) ≡ seaCell d → ⊥
   sea-not-afresh same = sea-not-plain (afresh-plain (seaCell d) sea-accepted same)
+
+  sea-stored : (c p : ℕ) → c < factsIn (seaCell d) .grid .columns → p < factsIn (seaCell d) .grid .posts → storedAt (seaCell d) c p ≡ negativeZero
+  sea-stored c p u v =
+      let s = seaCell d in
+      let g = factsIn s .grid in
+      let words = made-words (frameFor d) (headersFor d) (seaWords d) (written-headed d e) made in
+      let i = c * g .posts + p in
+      let within = part-within c (g .columns) (g .posts) u in
+      let all : length (wordsOfCell s) ≡ posts = ap length words ∙ made .all in
+      sym (word-under g s c p u v) ∙ ap (λ (ws : List ℕ). getD ws i 0) words ∙ word-at i (omega (arith, all, length-under g s))
+
+  -- P4: whatever a lookup is asked for there, by column and number or by position
+  pub sea-post : (c p : ℕ) (t : Told) → c < factsIn (seaCell d) .grid .columns → p < factsIn (seaCell d) .grid .posts → Answered (seaCell d) c p t
+      → t ≡ height (pos 0)
+  sea-post c p t u v answered = answered .zero (sea-stored c p u v)
+
+  pub sea-position : (north east : ℕ) (t : Told) (near : AnsweredNear (seaCell d) north east t) → t ≡ heightAt (near .column) (near .number) (pos 0)
+  sea-position north east t near = near .zero (sea-stored (near .column) (near .number) (near .on-grid .0) (near .on-grid .1))
+
+  -- D3: a refused call and then one that was done, which leaves 8000 hex in every post but its own
+  pub sea-edited : (κs κs' : L.Lfts 1) (a : K.Dens κs kinds.ps) (b : K.Dens κs' kinds.ps) (r q : Outcome) (s t : _)
+      → edit.Post κs a r s → edit.Post κs' b q t → a .0 .now ≡ seaCell d → b .0 .now ≡ s .0 .now → Bytes (seaCell d) → inner.isDone r ≡ false → inner.isDone q ≡ true
+      → t .0 .now ≡ withReplaced (frameIn (seaCell d) .grid) (seaCell d) (inner.callOf κs' b ∷ [])
+  sea-edited κs κs' a b r q s t kept kept' sea same bytes refused done =
+      inner.refused-then-done κs κs' a b r q s t kept kept' same (subst Cell (sym sea) sea-accepted) (subst Bytes (sym sea) bytes) refused done
+      ∙ ap (λ (l : List ℕ). withReplaced (frameIn l .grid) l (inner.callOf κs' b ∷ [])) sea
+
+  pub host-sea-edited : (κs κs' : L.Lfts 1) (a : K.Dens κs host-kinds.ps) (b : K.Dens κs' host-kinds.ps) (r q : ℕ) (s t : _)
+      → host-edit.Post κs a r s → host-edit.Post κs' b q t → a .0 .now ≡ seaCell d → b .0 .now ≡ s .0 .now → Bytes (seaCell d) → host.isDone r ≡ false → host.isDone q ≡ true
+      → t .0 .now ≡ withReplaced (frameIn (seaCell d) .grid) (seaCell d) (host.callOf κs' b ∷ [])
+  host-sea-edited κs κs' a b r q s t kept kept' sea same bytes refused done =
+      host.refused-then-done κs κs' a b r q s t kept kept' same (subst Cell (sym sea) sea-accepted) (subst Bytes (sym sea) bytes) refused done
+      ∙ ap (λ (l : List ℕ). withReplaced (frameIn l .grid) l (host.callOf κs' b ∷ [])) sea

@@ -8,9 +8,14 @@ use lib.IntN.{ℤ, pos, negsuc, negℤ}
 use lib.Dec.{leb, leb·suc-suc}
 use borrow.Author.Tests.{lt-ltb, le-ltb, ne-eqb}
 use Rattle.octets.specs.Choice.{both}
-use Rattle.posts.specs.Words.{heightOf, postOf, inRange, wordAllowed}
+use Rattle.posts.specs.Words.{heightOf, postOf, inRange, wordAllowed, negativeZero}
 use Rattle.posts.specs.Heights.{wordOf}
 use Rattle.posts.specs.declared.Post.the-variants.{Height}
+
+-- P4: 8000 hex may stand in every cell, and reads as 0
+pub negative-zero : (voids : Bool) → (wordAllowed voids negativeZero ≡ true) × (postOf negativeZero ≡ Height (pos 0))
+unfolding wordAllowed postOf heightOf inRange
+negative-zero voids = (refl, refl)
 
 -- a test beside one that holds
 both-true : (b : Bool) → both b true ≡ b

@@ -1,11 +1,11 @@
 -- What an allowed word reads as.
 use Prim.Native.Nat.{ℕ, suc, _-_}
 use native.Mathlib.Omega.{arith}
-use mathlib.Core.Path.{_≡_, refl, _∙_}
+use mathlib.Core.Path.{_≡_, _∙_}
 use mathlib.Core.Bool.{Bool, true}
 use lib.IntN.{ℤ, pos, negsuc}
 use borrow.Author.Tests.{le-leb}
-use Rattle.posts.specs.Words.{heightOf, postOf, inRange, wordAllowed, negativeZero}
+use Rattle.posts.specs.Words.{postOf, inRange, wordAllowed, negativeZero}
 use Rattle.posts.specs.declared.Post.{Post}
 use Rattle.posts.specs.declared.Post.the-variants.{Height, Void}
 use Rattle.posts.proofs.PostWords.{up-in-range, down-in-range, up-post, down-post}
@@ -29,8 +29,3 @@ of-pair second-zero = rw (down-post negativeZero (omega arith) (λ q. omega arit
 -- an allowed word reads as one of the two
 pub reads : (voids : Bool) (w : ℕ) → wordAllowed voids w ≡ true → Reads voids (postOf w)
 reads voids w a = of-pair (pair-of-word voids w a)
-
--- P4: 8000 hex may stand in every cell, and reads as 0
-pub negative-zero : (voids : Bool) → (wordAllowed voids negativeZero ≡ true) × (postOf negativeZero ≡ Height (pos 0))
-unfolding wordAllowed postOf heightOf inRange
-negative-zero voids = (refl, refl)
