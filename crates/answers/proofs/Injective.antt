@@ -30,11 +30,13 @@ refusals place =
     ∷ because.GridLength place
     ∷ because.Height place
     ∷ because.Room place
-    ∷ (replicate 8 because.OffGrid
+    ∷ (replicate 4 because.OffGrid
+    ++ (because.Year place
+    ∷ (replicate 3 because.OffGrid
     ++ (because.FieldImpossible place
     ∷ because.FieldContradicts place
     ∷ because.FieldOffTable place
-    ∷ []))
+    ∷ []))))
 
 -- a refusal as an answer of each kind
 abbrev refusedAs : (k : Kind) → Refusal → Answer k
@@ -74,6 +76,7 @@ shown (because.Item n) = (refl, (refl, (lit< tt, lit< tt)))
 shown (because.GridLength n) = (refl, (refl, (lit< tt, lit< tt)))
 shown (because.Height n) = (refl, (refl, (lit< tt, lit< tt)))
 shown (because.Room n) = (refl, (refl, (lit< tt, lit< tt)))
+shown (because.Year n) = (refl, (refl, (lit< tt, lit< tt)))
 shown (because.FieldImpossible n) = (refl, (refl, (lit< tt, lit< tt)))
 shown (because.FieldContradicts n) = (refl, (refl, (lit< tt, lit< tt)))
 shown (because.FieldOffTable n) = (refl, (refl, (lit< tt, lit< tt)))

@@ -1,4 +1,4 @@
--- The numbers given back (rules N1, N3 to N12, N21 to N23), and what each answer tells: every promise of an entry point speaks through `told`.
+-- The numbers given back (rules N1, N3 to N12, N17, N21 to N23), and what each answer tells: every promise of an entry point speaks through `told`.
 use Prim.Native.Nat.{ℕ}
 use mathlib.Core.List.{List, [], _∷_}
 use lib.IntN.{ℤ, pos, natAbs}
@@ -53,7 +53,7 @@ valueAt values i = getD values i (pos 0)
 abbrev pub countAt : List ℤ → ℕ → ℕ
 countAt values i = natAbs (valueAt values i)
 
--- N1, N3 to N12, N21 to N23: the number of each refusal, and its place
+-- N1, N3 to N12, N17, N21 to N23: the number of each refusal, and its place
 abbrev pub numbered : Refusal → Told
 numbered (because.Short length) = refused 1 length
 numbered (because.Cut offset) = refused 3 offset
@@ -66,6 +66,7 @@ numbered (because.Item item) = refused 9 item
 numbered (because.GridLength due) = refused 10 due
 numbered (because.Height index) = refused 11 index
 numbered (because.Room due) = refused 12 due
+numbered (because.Year named) = refused 17 named
 numbered (because.FieldImpossible offset) = refused 21 offset
 numbered (because.FieldContradicts offset) = refused 22 offset
 numbered (because.FieldOffTable offset) = refused 23 offset

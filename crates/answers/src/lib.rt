@@ -26,6 +26,8 @@ pub enum Refusal {
     Height(usize),
     // the output is too short: the length due
     Room(usize),
+    // a rule year that there is not: the year as it was named
+    Year(usize),
     // a header field has bytes that no accepted header has there: the offset of the first wrong one
     FieldImpossible(usize),
     // a header field goes against another field: as above
@@ -92,6 +94,7 @@ pub fn number(refusal: Refusal) -> Numbered
         Refusal::GridLength(due) => Numbered(10, due),
         Refusal::Height(index) => Numbered(11, index),
         Refusal::Room(due) => Numbered(12, due),
+        Refusal::Year(named) => Numbered(17, named),
         Refusal::FieldImpossible(at) => Numbered(21, at),
         Refusal::FieldContradicts(at) => Numbered(22, at),
         Refusal::FieldOffTable(at) => Numbered(23, at),

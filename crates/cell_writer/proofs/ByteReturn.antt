@@ -9,6 +9,7 @@ use lib.ListN.{length, getD, drop}
 use Rattle.octets.specs.Numbers.{Bytes}
 use Rattle.answers.specs.declared.Outcome.{Outcome}
 use Rattle.answers.specs.declared.Outcome.the-variants.{Done}
+use Rattle.years.specs.declared.Year.{Year}
 use Rattle.layout.specs.Levels.{postsOf, columnBytes}
 use Rattle.layout.specs.Grid.{gridOf}
 use Rattle.layout.specs.declared.Grid.{Grid}
@@ -43,26 +44,26 @@ of-level : (level edge : ℕ) → level < 3 → edge < 90 → OfLevel (gridOf le
 unfolding gridOf
 of-level level edge hl he = record { level = hl; columns = zone-one-most level edge hl he; posts = refl; bytes = refl }
 
-pub cell-of-level : (s : List ℕ) → Cell s → OfLevel (frameIn s .grid)
+pub cell-of-level : {year : Year} (s : List ℕ) → Cell year s → OfLevel (factsIn s .grid)
 cell-of-level s cell =
     let f = cell-facts s cell in
     let latitude = factsIn s .latitude in
     rw (f .laid) (of-level (levelAt s) (edgeOf latitude) (level-below s) (edge-below latitude (f .latitude)))
 
-module _ (s : List ℕ) (cell : Cell s) (k : ℕ) (h : k < frameIn s .grid .columns) where
+module _ {year : Year} (s : List ℕ) (cell : Cell year s) (k : ℕ) (h : k < factsIn s .grid .columns) where
   -- the posts of a column may be held where voids are allowed
-  column-held : Held true (heightsIn (columnAt s (frameIn s .grid) k) (frameIn s .grid .posts))
+  column-held : Held true (heightsIn (columnAt s (factsIn s .grid) k) (factsIn s .grid .posts))
   column-held i u =
-      let g = frameIn s .grid in
+      let g = factsIn s .grid in
       let c = columnAt s g k in
       let ws = wordsIn c (g .posts) in
-      heights-more (frameIn s .voids) (getD (heightsIn c (g .posts)) i (pos 0))
-      (said-held (frameIn s .voids) ws (good-allowed c k (g .posts) (frameIn s .voids) (cell .framed .columns k h)) i u)
+      heights-more (frameIn year s .voids) (getD (heightsIn c (g .posts)) i (pos 0))
+      (said-held (frameIn year s .voids) ws (good-allowed c k (g .posts) (frameIn year s .voids) (cell .framed .columns k h)) i u)
 
-  module _ (out : List ℕ) (room : frameIn s .grid .bytes .column ≤ length out) where
-    pub return-done : judgedColumnWrite (frameIn s .grid .level) k (numbers (heightsIn (columnAt s (frameIn s .grid) k) (frameIn s .grid .posts))) (length out) ≡ Done
+  module _ (out : List ℕ) (room : factsIn s .grid .bytes .column ≤ length out) where
+    pub return-done : judgedColumnWrite (factsIn s .grid .level) k (numbers (heightsIn (columnAt s (factsIn s .grid) k) (factsIn s .grid .posts))) (length out) ≡ Done
     return-done =
-        let g = frameIn s .grid in
+        let g = factsIn s .grid in
         let zs = heightsIn (columnAt s g k) (g .posts) in
         let l = cell-of-level s cell in
         let n = length-heights (columnAt s g k) (g .posts) in
@@ -70,12 +71,12 @@ module _ (s : List ℕ) (cell : Cell s) (k : ℕ) (h : k < frameIn s .grid .colu
         (then-rest Done (l .level) (omega (arith, l .columns))
         (fine (n ∙ sym (l .posts)) (λ i u. column-held i (omega (arith, l .posts))) (omega (arith, l .bytes))))
 
-    pub byte-return : Bytes s → Plain (wordsIn (columnAt s (frameIn s .grid) k) (frameIn s .grid .posts))
-        → columnOutput (frameIn s .grid .level) k (heightsIn (columnAt s (frameIn s .grid) k) (frameIn s .grid .posts)) out
-        ≡ columnAt s (frameIn s .grid) k ++ drop (frameIn s .grid .bytes .column) out
+    pub byte-return : Bytes s → Plain (wordsIn (columnAt s (factsIn s .grid) k) (factsIn s .grid .posts))
+        → columnOutput (factsIn s .grid .level) k (heightsIn (columnAt s (factsIn s .grid) k) (factsIn s .grid .posts)) out
+        ≡ columnAt s (factsIn s .grid) k ++ drop (factsIn s .grid .bytes .column) out
     unfolding columnOutput
     byte-return bytes plain =
-        let g = frameIn s .grid in
+        let g = factsIn s .grid in
         let zs = heightsIn (columnAt s g k) (g .posts) in
         let long : length (columnAt s g k) ≡ g .bytes .column = cell .framed .columns k h .long ∙ sym (cell-facts s cell .grid .column) in
         ap (λ (o : Outcome). outputAfter o (columnOf k zs) out) return-done

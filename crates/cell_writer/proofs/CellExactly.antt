@@ -4,6 +4,7 @@ use mathlib.Core.Path.{_≡_}
 use mathlib.Core.Bool.{true}
 use Rattle.answers.specs.declared.Outcome.{Outcome}
 use Rattle.answers.specs.declared.Outcome.the-variants.{Done}
+use Rattle.years.specs.declared.Year.{Year}
 use Rattle.layout.specs.declared.Frame.{Frame}
 use Rattle.description.specs.Items.{itemTests, badItem, inRange}
 use Rattle.description.specs.declared.Description.{Description}
@@ -33,32 +34,32 @@ module _ (f : Frame) (g : Heights) (room : ℕ) where
   unfolding judgedUnder
   under-fine = posts-fine _ _ (f .voids) g room
 
-module _ (d : Description) (g : Heights) (room : ℕ) where
+module _ (year : Year) (d : Description) (g : Heights) (room : ℕ) where
   -- 9 with the lowest item, then 10, 11, 12, or done
   abbrev pub CellRow : Outcome → Type 0
-  CellRow = ItemRow (itemTests d) (UnderRow (frameFor d) g room)
+  CellRow = ItemRow (itemTests d) (UnderRow (frameFor year d) g room)
 
   -- every row's answer is given
-  pub given : (x : Outcome) → CellRow x → judgedCellWrite d g room ≡ x
+  pub given : (x : Outcome) → CellRow x → judgedCellWrite year d g room ≡ x
   unfolding judgedCellWrite
-  given = by-item.given (itemTests d) (judgedUnder (frameFor d) g room) _ (given-under (frameFor d) g room)
+  given = by-item.given (itemTests d) (judgedUnder (frameFor year d) g room) _ (given-under (frameFor year d) g room)
 
   -- and every answer is a row's
-  pub row : CellRow (judgedCellWrite d g room)
+  pub row : CellRow (judgedCellWrite year d g room)
   unfolding judgedCellWrite
-  row = by-item.row (itemTests d) (judgedUnder (frameFor d) g room) _ (row-under (frameFor d) g room)
+  row = by-item.row (itemTests d) (judgedUnder (frameFor year d) g room) _ (row-under (frameFor year d) g room)
 
-  pub items-fine : badItem d ≡ 0 → judgedCellWrite d g room ≡ judgedUnder (frameFor d) g room
+  pub items-fine : badItem d ≡ 0 → judgedCellWrite year d g room ≡ judgedUnder (frameFor year d) g room
   unfolding judgedCellWrite
-  items-fine e = none-bad (badItem d) (judgedUnder (frameFor d) g room) e
+  items-fine e = none-bad (badItem d) (judgedUnder (frameFor year d) g room) e
 
 -- what an accepted call was given
-pub record Ready (d : Description) (g : Heights) (room : ℕ) : Type 0 where
+pub record Ready (year : Year) (d : Description) (g : Heights) (room : ℕ) : Type 0 where
   pub ranged : inRange d ≡ true
-  pub fine : UnderFine (frameFor d) g room
+  pub fine : UnderFine (frameFor year d) g room
 
-pub ready : (d : Description) (g : Heights) (room : ℕ) → judgedCellWrite d g room ≡ Done → Ready d g room
+pub ready : (year : Year) (d : Description) (g : Heights) (room : ℕ) → judgedCellWrite year d g room ≡ Done → Ready year d g room
 unfolding judgedCellWrite
-ready d g room done =
-    let r = by-item.ready (itemTests d) (judgedUnder (frameFor d) g room) done in
-    record { ranged = r .0; fine = under-fine (frameFor d) g room (r .1) }
+ready year d g room done =
+    let r = by-item.ready (itemTests d) (judgedUnder (frameFor year d) g room) done in
+    record { ranged = r .0; fine = under-fine (frameFor year d) g room (r .1) }

@@ -11,11 +11,10 @@ use Rattle.layout.specs.Zones.{edgeOf}
 use Rattle.description.specs.Items.{inRange}
 use Rattle.description.specs.Facts.{basisOf, factsFor}
 use Rattle.description.specs.declared.Description.{Description}
-use Rattle.cell_writer.specs.Cell.{frameFor}
 use Rattle.layout.proofs.NearEdges.{edge-below}
 use Rattle.description.proofs.RangedItems.{ranged-items}
 
-pub due-ranged : (d : Description) → inRange d ≡ true → (g : Grid) → g ≡ frameFor d .grid → Ranged g
+pub due-ranged : (d : Description) → inRange d ≡ true → (g : Grid) → g ≡ factsFor d .grid → Ranged g
 unfolding factsFor basisOf
 due-ranged d e g due =
     let i = ranged-items d e in

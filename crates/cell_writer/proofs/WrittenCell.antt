@@ -5,6 +5,7 @@ use mathlib.Core.Bool.{true}
 use mathlib.Core.List.{List, [], _++_, append-nil}
 use lib.IntN.{ℤ}
 use lib.ListN.{length, length-map}
+use Rattle.years.specs.declared.Year.{Year}
 use Rattle.posts.specs.Heights.{wordOf}
 use Rattle.description.specs.Items.{inRange}
 use Rattle.headers.specs.Judged.{judged, factsIn}
@@ -32,14 +33,14 @@ facts-back d rest e =
 headers-say : (d : Description) → inRange d ≡ true → judged (headersFor d) ≡ Good (factsFor d)
 headers-say d e = rw (append-nil (headersFor d)) at (headers.written-good d [] e) ∙ ap Good (rw (append-nil (headersFor d)) at (facts-back d [] e))
 
-pub written-headed : (d : Description) → inRange d ≡ true → Headed (frameFor d) (headersFor d)
-written-headed d e = record { facts = factsFor d; good = headers-say d e; frame = refl }
+pub written-headed : (year : Year) (d : Description) → inRange d ≡ true → Headed year (frameFor year d) (headersFor d)
+written-headed year d e = record { facts = factsFor d; good = headers-say d e; frame = refl }
 
-pub written-made : (d : Description) → inRange d ≡ true → (zs : List ℤ) → length zs ≡ postsDue (frameFor d .grid) → Held (frameFor d .voids) zs
-    → Made (frameFor d) (headersFor d) (wordsOf zs)
-written-made d e zs all held = record {
-  range = headed-range (frameFor d) (headersFor d) (written-headed d e);
+pub written-made : (year : Year) (d : Description) → inRange d ≡ true → (zs : List ℤ) → length zs ≡ postsDue (factsFor d .grid) → Held (frameFor year d .voids) zs
+    → Made (frameFor year d) (headersFor d) (wordsOf zs)
+written-made year d e zs all held = record {
+  range = headed-range (frameFor year d) (headersFor d) (written-headed year d e);
   front = length-headers d;
   all = length-map zs wordOf ∙ all;
-  allowed = words-allowed (frameFor d .voids) zs held;
+  allowed = words-allowed (frameFor year d .voids) zs held;
 }

@@ -4,6 +4,7 @@ ghost use mathlib.Core.Bool.{true};
 ghost use lib.ListN.{length};
 ghost use Rattle.answers.specs.Told as told;
 ghost use Rattle.answers.specs.declared.Outcome.the-variants.{Done};
+ghost use Rattle.years.specs.Years.{under, leftUnder};
 ghost use Rattle.cells.specs.Grid.{columnsWritten};
 ghost use Rattle.description.specs.Items.{inRange};
 ghost use Rattle.sources.specs.Heights.{heightsFrom, heightsOf};
@@ -23,6 +24,9 @@ use layout::Grid;
 use layout::HEADER_BYTES;
 use layout::levels::column_bytes;
 use sources::Source;
+use years::Named;
+use years::Year;
+use years::year_of;
 
 // The columns of a grid, each from its part of the heights.
 fn put_columns(
@@ -74,8 +78,9 @@ fn put_cell(
     );
 }
 
-// The cell of items in range and of what is given, at the front of `out`.
-pub fn write_under(
+// The cell of items in range and of what is given, by the rules of a year, at the front of `out`.
+pub fn write_ranged(
+    year: Year,
     out: &mut [u8],
     d: Description,
     source: Source,
@@ -83,10 +88,10 @@ pub fn write_under(
     bytes: &[u8],
 ) -> Outcome
     requires { ⌜ inRange d ≡ true ⌝ }
-    ensures { λ r. ⌜ r ≡ judgedUnder (frameFor d) (heightsFrom source (now (numbers .entry)) (now (bytes .entry))) (length (now (out .entry))) ⌝ }
-    ensures { λ _. ⌜ now (out .exit) ≡ outputUnder d (heightsFrom source (now (numbers .entry)) (now (bytes .entry))) (now (out .entry)) ⌝ }
+    ensures { λ r. ⌜ r ≡ judgedUnder (frameFor year d) (heightsFrom source (now (numbers .entry)) (now (bytes .entry))) (length (now (out .entry))) ⌝ }
+    ensures { λ _. ⌜ now (out .exit) ≡ outputUnder year d (heightsFrom source (now (numbers .entry)) (now (bytes .entry))) (now (out .entry)) ⌝ }
 {
-    let frame = frame_of(facts_for(d));
+    let frame = frame_of(year, facts_for(d));
     let grid = frame.grid;
     let lengths = grid.bytes;
     let posts = grid.columns * grid.posts;
@@ -105,14 +110,25 @@ pub fn write_under(
     judged
 }
 
-// The cell of a description and a grid of heights, at the front of `out`; any items, any heights.
-pub fn write(out: &mut [u8], d: Description, heights: &[i16]) -> Outcome
-    ensures { λ r. ⌜ told.told told.act r ≡ cellTold d (now (heights .entry)) (now (out .entry)) ⌝ }
-    ensures { λ _. ⌜ now (out .exit) ≡ cellOutput d (now (heights .entry)) (now (out .entry)) ⌝ }
+// The writer by the rules of a year.
+fn write_under(year: Year, out: &mut [u8], d: Description, heights: &[i16]) -> Outcome
+    ensures { λ r. ⌜ told.told told.act r ≡ cellTold year d (now (heights .entry)) (now (out .entry)) ⌝ }
+    ensures { λ _. ⌜ now (out .exit) ≡ cellOutput year d (now (heights .entry)) (now (out .entry)) ⌝ }
 {
     let item = bad_item(d);
     if item != 0 {
         return Outcome::Refused(Refusal::Item(item));
     }
-    write_under(out, d, Source::Numbers, heights, &[])
+    write_ranged(year, out, d, Source::Numbers, heights, &[])
+}
+
+// The cell of a description and a grid of heights, at the front of `out`; any number for the rule year, any items, any heights.
+pub fn write(named: u32, out: &mut [u8], d: Description, heights: &[i16]) -> Outcome
+    ensures { λ r. ⌜ told.told told.act r ≡ under named (λ year. cellTold year d (now (heights .entry)) (now (out .entry))) ⌝ }
+    ensures { λ _. ⌜ now (out .exit) ≡ leftUnder named (now (out .entry)) (λ year. cellOutput year d (now (heights .entry)) (now (out .entry))) ⌝ }
+{
+    match year_of(named) {
+        Named::Rule(year) => write_under(year, out, d, heights),
+        Named::Unknown => Outcome::Refused(Refusal::Year(named as usize)),
+    }
 }

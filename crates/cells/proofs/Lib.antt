@@ -4,3 +4,4 @@ pub mod ColumnParts
 pub mod FramedWords
 pub mod MadeCells
 pub mod OwnGrid
+pub mod BothYears

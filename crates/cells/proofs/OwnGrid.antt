@@ -9,10 +9,11 @@ use Rattle.octets.specs.Numbers.{Bytes}
 use Rattle.octets.proofs.JoinedLaws.{length-listed, part-within, part-each}
 use Rattle.octets.proofs.ListLaws.{mapped}
 use Rattle.octets.proofs.PartLaws.{part-bytes}
+use Rattle.years.specs.declared.Year.{Year}
 use Rattle.layout.specs.Grid.{headerBytes}
 use Rattle.posts.specs.Words.{negativeZero}
 use Rattle.posts.specs.Heights.{wordOf, saidBy}
-use Rattle.headers.specs.Judged.{frameIn}
+use Rattle.headers.specs.Judged.{frameIn, factsIn}
 use Rattle.columns.specs.Column.{columnOfWords, wordsOf, columnOf, wordIn, wordsIn, heightsIn, Plain}
 use Rattle.columns.proofs.ColumnWords.{good-allowed, column-is}
 use Rattle.columns.proofs.ColumnHeights.{said-held, words-allowed, words-written, only-plain}
@@ -24,35 +25,35 @@ use Rattle.cells.proofs.FramedWords.{Made, words-there}
 use Rattle.cells.proofs.MadeCells.{cell-made, cell-remade}
 
 module _ (s : List ℕ) where
-  pub length-grid : length (gridIn s) ≡ frameIn s .grid .columns * frameIn s .grid .posts
-  length-grid = length-map (wordsOfCell s) saidBy ∙ length-under (frameIn s .grid) s
+  pub length-grid : length (gridIn s) ≡ factsIn s .grid .columns * factsIn s .grid .posts
+  length-grid = length-map (wordsOfCell s) saidBy ∙ length-under (factsIn s .grid) s
 
-  pub own-post : (c p : ℕ) → c < frameIn s .grid .columns → p < frameIn s .grid .posts
-      → heightAt (frameIn s .grid .posts) (gridIn s) c p ≡ saidBy (wordIn (columnAt s (frameIn s .grid) c) p)
+  pub own-post : (c p : ℕ) → c < factsIn s .grid .columns → p < factsIn s .grid .posts
+      → heightAt (factsIn s .grid .posts) (gridIn s) c p ≡ saidBy (wordIn (columnAt s (factsIn s .grid) c) p)
   own-post c p hc hp =
-      let g = frameIn s .grid in
+      let g = factsIn s .grid in
       let w = part-within c (g .columns) (g .posts) hc in
       mapped saidBy (wordsOfCell s) (c * g .posts + p) 0 (pos 0) (omega (arith, length-under g s)) ∙ ap saidBy (word-under g s c p hc hp)
 
   -- where all words are plain, those of each column are
-  pub column-plain : Plain (wordsOfCell s) → (k : ℕ) → k < frameIn s .grid .columns
-      → Plain (wordsIn (columnAt s (frameIn s .grid) k) (frameIn s .grid .posts))
+  pub column-plain : Plain (wordsOfCell s) → (k : ℕ) → k < factsIn s .grid .columns
+      → Plain (wordsIn (columnAt s (factsIn s .grid) k) (factsIn s .grid .posts))
   column-plain plain k h i u =
-      let g = frameIn s .grid in
+      let g = factsIn s .grid in
       let c = columnAt s g k in
       let n = length-listed (wordIn c) (g .posts) in
       subst (λ (ws : List ℕ). getD ws i 0 ≡ negativeZero → ⊥) (part-under g s k h)
       (part-each (g .posts) (λ w. w ≡ negativeZero → ⊥) (wordsOfCell s) (g .columns) 0 (λ j v. plain j (omega (arith, length-under g s))) k h i (omega arith))
 
-module _ (s : List ℕ) (cell : Cell s) where
+module _ {year : Year} (s : List ℕ) (cell : Cell year s) where
   -- the words that are written for its posts are its words, where they are plain
   pub own-words : Plain (wordsOfCell s) → wordsOf (gridIn s) ≡ wordsOfCell s
-  own-words = words-written (frameIn s .voids) (wordsOfCell s) (cell-made s cell .allowed)
+  own-words = words-written (frameIn year s .voids) (wordsOfCell s) (cell-made s cell .allowed)
 
   -- and a cell that is its columns written afresh has plain words
-  pub afresh-plain : afresh (take headerBytes s) (frameIn s .grid) (gridIn s) ≡ s → Plain (wordsOfCell s)
+  pub afresh-plain : afresh (take headerBytes s) (factsIn s .grid) (gridIn s) ≡ s → Plain (wordsOfCell s)
   afresh-plain same =
-      let f = frameIn s in
+      let f = frameIn year s in
       let made = cell-made s cell in
       let written : Made f (take headerBytes s) (wordsOf (gridIn s)) = record {
         range = made .range;
@@ -64,15 +65,15 @@ module _ (s : List ℕ) (cell : Cell s) where
       (sym (words-there f (take headerBytes s) (wordsOf (gridIn s)) written) ∙ ap (wordsUnder (f .grid)) same)
 
   module _ (bytes : Bytes s) where
-    pub cell-afresh : Plain (wordsOfCell s) → afresh (take headerBytes s) (frameIn s .grid) (gridIn s) ≡ s
-    cell-afresh plain = ap (cellOfWords (take headerBytes s) (frameIn s .grid)) (own-words plain) ∙ cell-remade s cell bytes
+    pub cell-afresh : Plain (wordsOfCell s) → afresh (take headerBytes s) (factsIn s .grid) (gridIn s) ≡ s
+    cell-afresh plain = ap (cellOfWords (take headerBytes s) (factsIn s .grid)) (own-words plain) ∙ cell-remade s cell bytes
 
     -- a column written from its own posts
-    pub column-afresh : (k : ℕ) → k < frameIn s .grid .columns → Plain (wordsIn (columnAt s (frameIn s .grid) k) (frameIn s .grid .posts))
-        → columnOf k (heightsIn (columnAt s (frameIn s .grid) k) (frameIn s .grid .posts)) ≡ columnAt s (frameIn s .grid) k
+    pub column-afresh : (k : ℕ) → k < factsIn s .grid .columns → Plain (wordsIn (columnAt s (factsIn s .grid) k) (factsIn s .grid .posts))
+        → columnOf k (heightsIn (columnAt s (factsIn s .grid) k) (factsIn s .grid .posts)) ≡ columnAt s (factsIn s .grid) k
     column-afresh k h plain =
-        let g = frameIn s .grid in
+        let g = factsIn s .grid in
         let c = columnAt s g k in
         let good = cell .framed .columns k h in
-        ap (columnOfWords k) (words-written (frameIn s .voids) (wordsIn c (g .posts)) (good-allowed c k (g .posts) (frameIn s .voids) good) plain)
+        ap (columnOfWords k) (words-written (frameIn year s .voids) (wordsIn c (g .posts)) (good-allowed c k (g .posts) (frameIn year s .voids) good) plain)
         ∙ column-is c k (g .posts) (part-bytes s (startOf g k) (g .bytes .column) bytes) (good .long) (good .right)

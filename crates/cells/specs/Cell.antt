@@ -3,6 +3,7 @@ use Prim.Native.Nat.{ℕ, _+_, _*_, _<_}
 use mathlib.Core.Path.{_≡_}
 use mathlib.Core.List.{List}
 use lib.ListN.{length, take, drop}
+use Rattle.years.specs.declared.Year.{Year}
 use Rattle.layout.specs.declared.Frame.{Frame}
 use Rattle.layout.specs.declared.Grid.{Grid}
 use Rattle.layout.specs.Grid.{headerBytes}
@@ -21,7 +22,7 @@ pub record Framed (f : Frame) (s : List ℕ) : Type 0 where
   pub long : length s ≡ f .grid .bytes .cell
   pub columns : (k : ℕ) → k < f .grid .columns → GoodColumn (columnAt s (f .grid) k) k (f .grid .posts) (f .voids)
 
--- D2: the bytes follow the scope
-pub record Cell (s : List ℕ) : Type 0 where
+-- D2: the bytes follow the scope under a year
+pub record Cell (year : Year) (s : List ℕ) : Type 0 where
   pub headers : Follows s
-  pub framed : Framed (frameIn s) s
+  pub framed : Framed (frameIn year s) s

@@ -3,7 +3,7 @@ use Prim.Native.Nat.{ℕ}
 use mathlib.Core.List.{List, _++_}
 use Rattle.octets.specs.Parts.{part, joined}
 use Rattle.layout.specs.declared.Grid.{Grid}
-use Rattle.headers.specs.Judged.{frameIn}
+use Rattle.headers.specs.Judged.{factsIn}
 use Rattle.columns.specs.Column.{columnOfWords, wordsIn}
 use Rattle.cells.specs.Cell.{columnAt}
 
@@ -21,4 +21,4 @@ wordsUnder g s = joined (λ (k : ℕ). wordsIn (columnAt s g k) (g .posts)) (g .
 
 -- a cell's own words
 abbrev pub wordsOfCell : List ℕ → List ℕ
-wordsOfCell s = wordsUnder (frameIn s .grid) s
+wordsOfCell s = wordsUnder (factsIn s .grid) s

@@ -16,6 +16,7 @@ use Rattle.answers.proofs.Injective.{told-injective}
 use Rattle.host_answers.specs.Packed.{packed}
 use Rattle.octets.specs.Numbers.{Bytes}
 use Rattle.octets.specs.Parts.{joined}
+use Rattle.years.specs.declared.Year.{Year}
 use Rattle.layout.specs.Levels.{postsOf}
 use Rattle.layout.specs.Grid.{headerBytes}
 use Rattle.layout.specs.declared.Grid.{Grid}
@@ -36,7 +37,7 @@ use Rattle.dted.proofs.writers.dted_write_column.Reads as host-write-column
 use Rattle.dted.proofs.writers.dted_write_column.Kinds as host-write-column-kinds
 use Rattle.demands.proofs.HostAnswers.{done-0}
 
-module _ (l : List ℕ) (cell : Cell l) (bytes : Bytes l) where
+module _ {year : Year} (l : List ℕ) (cell : Cell year l) (bytes : Bytes l) where
   abbrev g : Grid
   g = factsIn l .grid
 

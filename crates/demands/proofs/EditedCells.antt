@@ -10,7 +10,9 @@ use Rattle.answers.specs.declared.Outcome.{Outcome}
 use Rattle.answers.specs.declared.Outcome.the-variants.{Done, Refused}
 use Rattle.answers.proofs.Injective.{told-injective}
 use Rattle.octets.specs.Numbers.{Bytes}
-use Rattle.headers.specs.Judged.{frameIn}
+use Rattle.years.specs.declared.Year.{Year}
+use Rattle.years.specs.Years.{Names}
+use Rattle.headers.specs.Judged.{frameIn, factsIn}
 use Rattle.cells.specs.Cell.{Cell}
 use Rattle.edit.specs.Edit.{judgedEdit, editTold}
 use Rattle.edit.specs.Sequence.{Call, takes}
@@ -18,6 +20,7 @@ use Rattle.edit.specs.Replaced.{withReplaced}
 use Rattle.edit.proofs.EditWords.{edit-answered}
 use Rattle.edit.proofs.edit.Reads as edit
 use Rattle.edit.proofs.edit.Kinds as kinds
+use Rattle.demands.proofs.NamedYears.{edit-named}
 use Rattle.demands.proofs.EditChain.{Chain, empty, call, Left, one-done, chain-left}
 
 -- an answer tells done
@@ -32,36 +35,37 @@ done-exactly false (Refused r) e = refl
 
 -- what a call was given
 abbrev pub callOf : (κs : L.Lfts 1) → K.Dens κs kinds.ps → Call
-callOf κs a = record { column = a .1 .0; post = a .1 .1 .0; height = a .1 .1 .1 .0 }
+callOf κs a = record { column = a .1 .1 .0; post = a .1 .1 .1 .0; height = a .1 .1 .1 .1 .0 }
 
--- calls of `edit`, each of which keeps its promise, take bytes to bytes with these answers
-pub data Edits : List ℕ → List Call → List Outcome → List ℕ → Type 1 where
-  none : {l : List ℕ} → Edits l [] [] l
+-- calls of `edit`, each of which keeps its promise and names the one year, take bytes to bytes with these answers
+pub data Edits (year : Year) : List ℕ → List Call → List Outcome → List ℕ → Type 1 where
+  none : {l : List ℕ} → Edits year l [] [] l
   more : {es : List Call} {rs : List Outcome} {l : List ℕ} (κs : L.Lfts 1) (a : K.Dens κs kinds.ps) (r : Outcome) (s : _)
-      → edit.Post κs a r s → Edits (s .0 .now) es rs l → Edits (a .0 .now) (callOf κs a ∷ es) (r ∷ rs) l
+      → edit.Post κs a r s → Names (a .0) year → Edits year (s .1 .0 .now) es rs l → Edits year (a .1 .0 .now) (callOf κs a ∷ es) (r ∷ rs) l
 
 -- one call answers what is judged
-call-answered : (κs : L.Lfts 1) (a : K.Dens κs kinds.ps) (r : Outcome) (s : _) → edit.Post κs a r s → Cell (a .0 .now)
-    → isDone r ≡ takes (frameIn (a .0 .now)) (callOf κs a)
+call-answered : {year : Year} (κs : L.Lfts 1) (a : K.Dens κs kinds.ps) (r : Outcome) (s : _) → edit.Post κs a r s → Names (a .0) year → Cell year (a .1 .0 .now)
+    → isDone r ≡ takes (frameIn year (a .1 .0 .now)) (callOf κs a)
 unfolding editTold
-call-answered κs a r s promise cell =
+call-answered {year} κs a r s promise names cell =
     let e = callOf κs a in
-    let same = told-injective act r (judgedEdit (a .0 .now) (e .column) (e .post) (e .height)) (promise .0) in
-    done-exactly (takes (frameIn (a .0 .now)) e) r (rw same (edit-answered (a .0 .now) cell e))
+    let same = told-injective act r (judgedEdit year (a .1 .0 .now) (e .column) (e .post) (e .height)) (edit-named κs a r s promise year names .0) in
+    done-exactly (takes (frameIn year (a .1 .0 .now)) e) r (rw same (edit-answered (a .1 .0 .now) cell e))
 
-chained : {l l' : List ℕ} {es : List Call} {rs : List Outcome} → Edits l es rs l' → Chain isDone l es rs l'
+chained : {year : Year} {l l' : List ℕ} {es : List Call} {rs : List Outcome} → Edits year l es rs l' → Chain isDone year l es rs l'
 chained none = empty
-chained (more κs a r s promise rest) = call (a .0 .now) (s .0 .now) (callOf κs a) r (promise .1) (call-answered κs a r s promise) (chained rest)
+chained {year} (more κs a r s promise names rest) =
+    call (a .1 .0 .now) (s .1 .0 .now) (callOf κs a) r (edit-named κs a r s promise year names .1) (call-answered κs a r s promise names) (chained rest)
 
-pub edited-cells : (l l' : List ℕ) (es : List Call) (rs : List Outcome) → Edits l es rs l' → Cell l → Bytes l → Left isDone l es rs l'
+pub edited-cells : {year : Year} (l l' : List ℕ) (es : List Call) (rs : List Outcome) → Edits year l es rs l' → Cell year l → Bytes l → Left isDone year l es rs l'
 edited-cells l l' es rs calls = chain-left l l' es rs (chained calls)
 
 -- so a refused call and then, on what it left, one that was done
-pub refused-then-done : (κs κs' : L.Lfts 1) (a : K.Dens κs kinds.ps) (b : K.Dens κs' kinds.ps) (r q : Outcome) (s t : _)
-    → edit.Post κs a r s → edit.Post κs' b q t → b .0 .now ≡ s .0 .now → Cell (a .0 .now) → Bytes (a .0 .now) → isDone r ≡ false → isDone q ≡ true
-    → t .0 .now ≡ withReplaced (frameIn (a .0 .now) .grid) (a .0 .now) (callOf κs' b ∷ [])
-refused-then-done κs κs' a b r q s t kept kept' same cell bytes refused done =
-    let second : Edits (s .0 .now) (callOf κs' b ∷ []) (q ∷ []) (t .0 .now) =
-    subst (λ (l : List ℕ). Edits l (callOf κs' b ∷ []) (q ∷ []) (t .0 .now)) same (more κs' b q t kept' none)
+pub refused-then-done : (year : Year) (κs κs' : L.Lfts 1) (a : K.Dens κs kinds.ps) (b : K.Dens κs' kinds.ps) (r q : Outcome) (s t : _)
+    → edit.Post κs a r s → edit.Post κs' b q t → Names (a .0) year → Names (b .0) year → b .1 .0 .now ≡ s .1 .0 .now → Cell year (a .1 .0 .now) → Bytes (a .1 .0 .now) → isDone r ≡ false → isDone q ≡ true
+    → t .1 .0 .now ≡ withReplaced (factsIn (a .1 .0 .now) .grid) (a .1 .0 .now) (callOf κs' b ∷ [])
+refused-then-done year κs κs' a b r q s t kept kept' names names' same cell bytes refused done =
+    let second : Edits year (s .1 .0 .now) (callOf κs' b ∷ []) (q ∷ []) (t .1 .0 .now) =
+    subst (λ (l : List ℕ). Edits year l (callOf κs' b ∷ []) (q ∷ []) (t .1 .0 .now)) same (more κs' b q t kept' names' none)
     in
-    one-done (a .0 .now) (t .0 .now) (callOf κs a) (callOf κs' b) r q (edited-cells _ _ _ _ (more κs a r s kept second) cell bytes) refused done
+    one-done (a .1 .0 .now) (t .1 .0 .now) (callOf κs a) (callOf κs' b) r q (edited-cells _ _ _ _ (more κs a r s kept names second) cell bytes) refused done

@@ -1,6 +1,7 @@
 -- The marked examples hold: one statement over their whole table.
 use mathlib.Core.Path.{_≡_, refl}
 use mathlib.Core.List.{[], _∷_, map}
+use Rattle.years.specs.Years.{namedOf}
 use Rattle.layout.specs.Levels.{latitudeInterval, postsOf}
 use Rattle.layout.specs.Zones.{edgeOf, factorAmong, factorOf}
 use Rattle.layout.specs.Grid.{longitudeInterval, columnsOf, cellBytes, gridOf}
@@ -19,9 +20,9 @@ use Rattle.dted.specs.Grid.{fromSouth}
 use Rattle.demands.specs.Marked.{Example, table, made, inputs, answers}
 
 pub marked : map made inputs ≡ answers
-unfolding made fromSouth factorAmong factorOf latitudeInterval postsOf longitudeInterval columnsOf cellBytes gridOf edgeOf southWest heightOf postOf inRange wordAllowed wordOf places value listed sumOf preamble bytesOfWords sealed columnOfWords pasted stored storedIn
+unfolding made namedOf fromSouth factorAmong factorOf latitudeInterval postsOf longitudeInterval columnsOf cellBytes gridOf edgeOf southWest heightOf postOf inRange wordAllowed wordOf places value listed sumOf preamble bytesOfWords sealed columnOfWords pasted stored storedIn
 marked = refl
 
 -- and none is missing: the marks of the table's rows
-pub all-marked : map (λ (e : Example). e .mark) table ≡ 1 ∷ 1 ∷ 2 ∷ 2 ∷ 3 ∷ 4 ∷ 5 ∷ 5 ∷ 6 ∷ 6 ∷ 7 ∷ 7 ∷ 8 ∷ 8 ∷ 9 ∷ 10 ∷ 11 ∷ 12 ∷ 13 ∷ 14 ∷ 15 ∷ 16 ∷ []
+pub all-marked : map (λ (e : Example). e .mark) table ≡ 1 ∷ 1 ∷ 2 ∷ 2 ∷ 3 ∷ 4 ∷ 5 ∷ 5 ∷ 6 ∷ 6 ∷ 7 ∷ 7 ∷ 8 ∷ 8 ∷ 9 ∷ 10 ∷ 11 ∷ 12 ∷ 13 ∷ 14 ∷ 15 ∷ 16 ∷ 17 ∷ 17 ∷ 17 ∷ 17 ∷ 18 ∷ 18 ∷ 19 ∷ 19 ∷ 20 ∷ 20 ∷ 20 ∷ []
 all-marked = refl

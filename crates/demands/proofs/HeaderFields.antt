@@ -2,7 +2,7 @@
 -- headers tells the same of it, the place in that field and the number 21, 22 or 23 exactly as the scope says; and of nothing else.
 use Prim.Native.Nat.{ℕ, _+_, _<_, _≤_}
 use native.Mathlib.Omega.{arith}
-use mathlib.Core.Path.{_≡_, refl, sym, ap, subst}
+use mathlib.Core.Path.{_≡_, refl, sym, ap, subst, _∙_}
 use mathlib.Core.Bool.{Bool}
 use mathlib.Core.List.{List}
 use lib.Dec.{lit<}
@@ -17,13 +17,16 @@ use Rattle.answers.specs.declared.Refusal.the-variants as because
 use Rattle.answers.specs.declared.Outcome.{Outcome}
 use Rattle.answers.specs.declared.Reading.{Reading}
 use Rattle.answers.specs.declared.Reading.the-variants as reading
+use Rattle.years.specs.declared.Year.{Year}
+use Rattle.years.specs.Years.{Names}
+use Rattle.years.proofs.YearLaws.{named-low, under-named}
 use Rattle.host_answers.specs.Apart.{toldIn}
 use Rattle.posts.specs.Words.{postOf}
 use Rattle.posts.specs.declared.Post.{Post}
 use Rattle.posts.specs.declared.Post.the-variants.{Height, Void}
 use Rattle.fields.specs.Table.{bytesIn, fieldAt}
 use Rattle.headers.specs.Basis.{basisIn}
-use Rattle.headers.specs.Judged.{broken, judged, frameIn}
+use Rattle.headers.specs.Judged.{broken, judged, frameIn, factsIn}
 use Rattle.headers.specs.declared.JudgedHeaders.{JudgedHeaders}
 use Rattle.headers.specs.declared.JudgedHeaders.the-variants as headers
 use Rattle.headers.proofs.Exactly.{First, Answer, short, breaks, good, answered, first-refused}
@@ -68,6 +71,7 @@ use Rattle.dted.proofs.cells.dted_edit.Reads as edit-call
 use Rattle.dted.proofs.cells.dted_edit.Kinds as edit-kinds
 use Rattle.dted.proofs.descriptions.dted_describe.Reads as describe-call
 use Rattle.dted.proofs.descriptions.dted_describe.Kinds as describe-kinds
+use Rattle.demands.proofs.NamedYears.{intake-named, post-named, position-named, edit-named}
 use Rattle.demands.proofs.HostTold.{intake-told, describe-told, post-told, position-told, edit-told}
 
 -- what is told of field i, the first of these bytes that breaks its rule
@@ -122,112 +126,115 @@ module _ (s : List ℕ) (k posts : ℕ) (voids : Bool) (base : ℕ) where
   column-below r e = by-column (judgedColumn s k posts voids base) (column-rows.row s k posts voids base) r e
 
 -- the rows of intake, and of a post that is reached
-by-intake : (l : List ℕ) (t : Told) → intake-rows.IntakeRow l t → 21 ≤ numberTold t → BrokenField l
-by-intake l _ (intake-rows.bad-headers r e) n = headers-broken l r e n
-by-intake l _ (intake-rows.cut h k u f c) n = absurd (omega (arith, n))
-by-intake l _ (intake-rows.column h k u f w r e) n =
-    let g = frameIn l .grid in
-    absurd (omega (arith, n, column-below (columnAt l g k) k (g .posts) (frameIn l .voids) (startOf g k) r e))
-by-intake l _ (intake-rows.surplus h f m) n = absurd (omega (arith, n))
-by-intake l _ (intake-rows.fine cell) n = absurd (omega (arith, n))
+by-intake : (year : Year) (l : List ℕ) (t : Told) → intake-rows.IntakeRow year l t → 21 ≤ numberTold t → BrokenField l
+by-intake year l _ (intake-rows.bad-headers r e) n = headers-broken l r e n
+by-intake year l _ (intake-rows.cut h k u f c) n = absurd (omega (arith, n))
+by-intake year l _ (intake-rows.column h k u f w r e) n =
+    let g = factsIn l .grid in
+    absurd (omega (arith, n, column-below (columnAt l g k) k (g .posts) (frameIn year l .voids) (startOf g k) r e))
+by-intake year l _ (intake-rows.surplus h f m) n = absurd (omega (arith, n))
+by-intake year l _ (intake-rows.fine cell) n = absurd (omega (arith, n))
 
 reads-0 : (q : Post) → numberTold (told post (postReads q)) ≡ 0
 reads-0 (Height z) = refl
 reads-0 Void = refl
 
-by-reached : (l : List ℕ) (c p : ℕ) (x : Reached) → lookup-rows.Row l c p x → 21 ≤ numberTold (told post (readingOf x)) → BrokenField l
-by-reached l c p _ (lookup-rows.bad-headers r e) n = headers-broken l r e n
-by-reached l c p _ (lookup-rows.off h away) n = absurd (omega (arith, n))
-by-reached l c p _ (lookup-rows.cut o s) n = absurd (omega (arith, n))
-by-reached l c p _ (lookup-rows.column o w r e) n =
-    let g = frameIn l .grid in
-    absurd (omega (arith, n, column-below (columnAt l g c) c (g .posts) (frameIn l .voids) (startOf g c) r e))
-by-reached l c p _ (lookup-rows.good o w g) n = absurd (omega (arith, n, reads-0 (postOf (spotIn l (frameIn l) c p .word))))
+by-reached : (year : Year) (l : List ℕ) (c p : ℕ) (x : Reached) → lookup-rows.Row year l c p x → 21 ≤ numberTold (told post (readingOf x)) → BrokenField l
+by-reached year l c p _ (lookup-rows.bad-headers r e) n = headers-broken l r e n
+by-reached year l c p _ (lookup-rows.off h away) n = absurd (omega (arith, n))
+by-reached year l c p _ (lookup-rows.cut o s) n = absurd (omega (arith, n))
+by-reached year l c p _ (lookup-rows.column o w r e) n =
+    let g = factsIn l .grid in
+    absurd (omega (arith, n, column-below (columnAt l g c) c (g .posts) (frameIn year l .voids) (startOf g c) r e))
+by-reached year l c p _ (lookup-rows.good o w g) n = absurd (omega (arith, n, reads-0 (postOf (spotIn l (frameIn year l) c p .word))))
 
 same-number : (c p : ℕ) (y : Reading) → numberTold (saidAt c p y) ≡ numberTold (told post y)
 same-number c p (reading.Height z) = refl
 same-number c p reading.Void = refl
 same-number c p (reading.Refused r) = refl
 
-by-position : (l : List ℕ) (latitude longitude : ℤ) (t : Told) → position-rows.Row l latitude longitude t → 21 ≤ numberTold t → BrokenField l
-by-position l latitude longitude _ (position-rows.bad-headers r e) n = headers-broken l r e n
-by-position l latitude longitude _ (position-rows.off f e w) n = absurd (omega (arith, n))
-by-position l latitude longitude _ (position-rows.near f e k w) n =
+by-position : (year : Year) (l : List ℕ) (latitude longitude : ℤ) (t : Told) → position-rows.Row year l latitude longitude t → 21 ≤ numberTold t → BrokenField l
+by-position year l latitude longitude _ (position-rows.bad-headers r e) n = headers-broken l r e n
+by-position year l latitude longitude _ (position-rows.off f e w) n = absurd (omega (arith, n))
+by-position year l latitude longitude _ (position-rows.near f e k w) n =
     let c = nearestColumn (f .grid) k in
     let p = nearestPost (f .grid) k in
-    by-reached l c p (reached l c p) (lookup-rows.row l c p) (omega (arith, n, same-number c p (readingOf (reached l c p))))
+    by-reached year l c p (reached year l c p) (lookup-rows.row year l c p) (omega (arith, n, same-number c p (readingOf (reached year l c p))))
 
-by-edit : (l : List ℕ) (c p : ℕ) (z : ℤ) (x : Outcome) → edit-rows.EditRow l c p z x → 21 ≤ numberTold (told act x) → BrokenField l
-by-edit l c p z _ (edit-rows.reaching r row) n = by-reached l c p (reach.Refused r) row n
-by-edit l c p z _ (edit-rows.height r e) n = absurd (omega (arith, n))
-by-edit l c p z _ (edit-rows.done r e) n = absurd (omega (arith, n))
+by-edit : (year : Year) (l : List ℕ) (c p : ℕ) (z : ℤ) (x : Outcome) → edit-rows.EditRow year l c p z x → 21 ≤ numberTold (told act x) → BrokenField l
+by-edit year l c p z _ (edit-rows.reaching r row) n = by-reached year l c p (reach.Refused r) row n
+by-edit year l c p z _ (edit-rows.height r e) n = absurd (omega (arith, n))
+by-edit year l c p z _ (edit-rows.done r e) n = absurd (omega (arith, n))
 
 by-described : (l : List ℕ) (x : JudgedHeaders) → judged l ≡ x → 21 ≤ numberTold (saidOfDescribed (describedBy l x)) → BrokenField l
 by-described l (headers.Good f) e n = absurd (omega (arith, n))
 by-described l (headers.Refused r) e n = headers-broken l r e n
 
 -- what each definition says of headers
-intake-says : (l : List ℕ) → HeadersSaid l (taken l)
-intake-says l = said-by l (taken l) (λ r e. intake-rows.given l _ (intake-rows.bad-headers r e)) (by-intake l (taken l) (intake-rows.row l))
+intake-says : (year : Year) (l : List ℕ) → HeadersSaid l (taken year l)
+intake-says year l = said-by l (taken year l) (λ r e. intake-rows.given year l _ (intake-rows.bad-headers r e)) (by-intake year l (taken year l) (intake-rows.row year l))
 
 describe-says : (l : List ℕ) → HeadersSaid l (saidOfDescribed (described l))
 unfolding described
 describe-says l =
     said-by l (saidOfDescribed (described l)) (λ r e. ap (λ (x : JudgedHeaders). saidOfDescribed (describedBy l x)) e) (by-described l (judged l) refl)
 
-post-says : (l : List ℕ) (c p : ℕ) → HeadersSaid l (lookedUp l c p)
+post-says : (year : Year) (l : List ℕ) (c p : ℕ) → HeadersSaid l (lookedUp year l c p)
 unfolding lookedUp
-post-says l c p =
-    said-by l (lookedUp l c p)
-    (λ r e. ap (λ (x : Reached). told post (readingOf x)) (lookup-rows.given l c p _ (lookup-rows.bad-headers r e)))
-    (by-reached l c p (reached l c p) (lookup-rows.row l c p))
+post-says year l c p =
+    said-by l (lookedUp year l c p)
+    (λ r e. ap (λ (x : Reached). told post (readingOf x)) (lookup-rows.given year l c p _ (lookup-rows.bad-headers r e)))
+    (by-reached year l c p (reached year l c p) (lookup-rows.row year l c p))
 
-position-says : (l : List ℕ) (latitude longitude : ℤ) → HeadersSaid l (located l latitude longitude)
-position-says l latitude longitude =
-    said-by l (located l latitude longitude)
-    (λ r e. position-rows.given l latitude longitude _ (position-rows.bad-headers r e))
-    (by-position l latitude longitude (located l latitude longitude) (position-rows.row l latitude longitude))
+position-says : (year : Year) (l : List ℕ) (latitude longitude : ℤ) → HeadersSaid l (located year l latitude longitude)
+position-says year l latitude longitude =
+    said-by l (located year l latitude longitude)
+    (λ r e. position-rows.given year l latitude longitude _ (position-rows.bad-headers r e))
+    (by-position year l latitude longitude (located year l latitude longitude) (position-rows.row year l latitude longitude))
 
-edit-says : (l : List ℕ) (c p : ℕ) (z : ℤ) → HeadersSaid l (editTold l c p z)
+edit-says : (year : Year) (l : List ℕ) (c p : ℕ) (z : ℤ) → HeadersSaid l (editTold year l c p z)
 unfolding editTold
-edit-says l c p z =
-    said-by l (editTold l c p z)
-    (λ r e. ap (told act) (edit-rows.given l c p z _ (edit-rows.reaching r (lookup-rows.bad-headers r e))))
-    (by-edit l c p z (judgedEdit l c p z) (edit-rows.row l c p z))
+edit-says year l c p z =
+    said-by l (editTold year l c p z)
+    (λ r e. ap (told act) (edit-rows.given year l c p z _ (edit-rows.reaching r (lookup-rows.bad-headers r e))))
+    (by-edit year l c p z (judgedEdit year l c p z) (edit-rows.row year l c p z))
 
 -- so over the calls' own promises
 said-of : (l : List ℕ) (t u : Told) → u ≡ t → HeadersSaid l t → HeadersSaid l u
 said-of l t u e = subst (HeadersSaid l) (sym e)
 
-pub intake-headers : (κs : L.Lfts 1) (a : K.Dens κs taking-kinds.ps) (r : _) (s : _) → taking.Post κs a r s → HeadersSaid (now (a .0)) (told intake r)
-intake-headers κs a r s kept = said-of _ _ _ kept (intake-says (now (a .0)))
+pub intake-headers : (κs : L.Lfts 1) (a : K.Dens κs taking-kinds.ps) (r : _) (s : _) → taking.Post κs a r s → (year : Year) → Names (a .0) year → HeadersSaid (now (a .1 .0)) (told intake r)
+intake-headers κs a r s kept year names = said-of _ _ _ (intake-named κs a r s kept year names) (intake-says year (now (a .1 .0)))
 
 pub describe-headers : (κs : L.Lfts 1) (a : K.Dens κs describing-kinds.ps) (r : _) (s : _) → describing.Post κs a r s → HeadersSaid (now (a .0)) (saidOfDescribed r)
 describe-headers κs a r s kept = said-of _ _ _ (ap saidOfDescribed kept) (describe-says (now (a .0)))
 
-pub post-headers : (κs : L.Lfts 1) (a : K.Dens κs looking-kinds.ps) (r : _) (s : _) → looking.Post κs a r s → HeadersSaid (now (a .0)) (told post r)
-post-headers κs a r s kept = said-of _ _ _ kept (post-says (now (a .0)) (a .1 .0) (a .1 .1 .0))
+pub post-headers : (κs : L.Lfts 1) (a : K.Dens κs looking-kinds.ps) (r : _) (s : _) → looking.Post κs a r s → (year : Year) → Names (a .0) year → HeadersSaid (now (a .1 .0)) (told post r)
+post-headers κs a r s kept year names = said-of _ _ _ (post-named κs a r s kept year names) (post-says year (now (a .1 .0)) (a .1 .1 .0) (a .1 .1 .1 .0))
 
-pub position-headers : (κs : L.Lfts 1) (a : K.Dens κs locating-kinds.ps) (r : _) (s : _) → locating.Post κs a r s → HeadersSaid (now (a .0)) (told position r)
-position-headers κs a r s kept = said-of _ _ _ kept (position-says (now (a .0)) (a .1 .0) (a .1 .1 .0))
+pub position-headers : (κs : L.Lfts 1) (a : K.Dens κs locating-kinds.ps) (r : _) (s : _) → locating.Post κs a r s → (year : Year) → Names (a .0) year → HeadersSaid (now (a .1 .0)) (told position r)
+position-headers κs a r s kept year names = said-of _ _ _ (position-named κs a r s kept year names) (position-says year (now (a .1 .0)) (a .1 .1 .0) (a .1 .1 .1 .0))
 
-pub edit-headers : (κs : L.Lfts 1) (a : K.Dens κs editing-kinds.ps) (r : _) (s : _) → editing.Post κs a r s → HeadersSaid (now (a .0)) (told act r)
-edit-headers κs a r s kept = said-of _ _ _ (kept .0) (edit-says (now (a .0)) (a .1 .0) (a .1 .1 .0) (a .1 .1 .1 .0))
+pub edit-headers : (κs : L.Lfts 1) (a : K.Dens κs editing-kinds.ps) (r : _) (s : _) → editing.Post κs a r s → (year : Year) → Names (a .0) year → HeadersSaid (now (a .1 .0)) (told act r)
+edit-headers κs a r s kept year names = said-of _ _ _ (edit-named κs a r s kept year names .0) (edit-says year (now (a .1 .0)) (a .1 .1 .0) (a .1 .1 .1 .0) (a .1 .1 .1 .1 .0))
 
 -- and the exported ones: what the header takes out of an answer
-pub host-intake-headers : (κs : L.Lfts 1) (a : K.Dens κs intake-kinds.ps) (r : _) (s : _) → intake-call.Post κs a r s → HeadersSaid (now (a .0)) (toldIn r)
-host-intake-headers κs a r s kept = said-of _ _ _ (intake-told κs a r s kept) (intake-says (now (a .0)))
+small : (n : ℕ) (year : Year) → Names n year → n < 4294967296
+small n year names = omega (arith, named-low n year names)
+
+pub host-intake-headers : (κs : L.Lfts 1) (a : K.Dens κs intake-kinds.ps) (r : _) (s : _) → intake-call.Post κs a r s → (year : Year) → Names (a .0) year → HeadersSaid (now (a .1 .0)) (toldIn r)
+host-intake-headers κs a r s kept year names = said-of _ _ _ (intake-told κs a r s kept (small (a .0) year names) ∙ under-named (a .0) (λ (y : Year). taken y (now (a .1 .0))) year names) (intake-says year (now (a .1 .0)))
 
 pub host-describe-headers : (κs : L.Lfts 2) (a : K.Dens κs describe-kinds.ps) (r : _) (s : _) → describe-call.Post κs a r s
     → HeadersSaid (now (a .0)) (toldIn r)
 host-describe-headers κs a r s kept = said-of _ _ _ (describe-told κs a r s kept) (describe-says (now (a .0)))
 
-pub host-post-headers : (κs : L.Lfts 1) (a : K.Dens κs post-kinds.ps) (r : _) (s : _) → post-call.Post κs a r s → HeadersSaid (now (a .0)) (toldIn r)
-host-post-headers κs a r s kept = said-of _ _ _ (post-told κs a r s kept) (post-says (now (a .0)) (a .1 .0) (a .1 .1 .0))
+pub host-post-headers : (κs : L.Lfts 1) (a : K.Dens κs post-kinds.ps) (r : _) (s : _) → post-call.Post κs a r s → (year : Year) → Names (a .0) year → HeadersSaid (now (a .1 .0)) (toldIn r)
+host-post-headers κs a r s kept year names = said-of _ _ _ (post-told κs a r s kept (small (a .0) year names) ∙ under-named (a .0) (λ (y : Year). lookedUp y (now (a .1 .0)) (a .1 .1 .0) (a .1 .1 .1 .0)) year names) (post-says year (now (a .1 .0)) (a .1 .1 .0) (a .1 .1 .1 .0))
 
-pub host-position-headers : (κs : L.Lfts 1) (a : K.Dens κs position-kinds.ps) (r : _) (s : _) → position-call.Post κs a r s
-    → HeadersSaid (now (a .0)) (toldIn r)
-host-position-headers κs a r s kept = said-of _ _ _ (position-told κs a r s kept) (position-says (now (a .0)) (a .1 .0) (a .1 .1 .0))
+pub host-position-headers : (κs : L.Lfts 1) (a : K.Dens κs position-kinds.ps) (r : _) (s : _) → position-call.Post κs a r s → (year : Year) → Names (a .0) year
+    → HeadersSaid (now (a .1 .0)) (toldIn r)
+host-position-headers κs a r s kept year names = said-of _ _ _ (position-told κs a r s kept (small (a .0) year names) ∙ under-named (a .0) (λ (y : Year). located y (now (a .1 .0)) (a .1 .1 .0) (a .1 .1 .1 .0)) year names) (position-says year (now (a .1 .0)) (a .1 .1 .0) (a .1 .1 .1 .0))
 
-pub host-edit-headers : (κs : L.Lfts 1) (a : K.Dens κs edit-kinds.ps) (r : _) (s : _) → edit-call.Post κs a r s → HeadersSaid (now (a .0)) (toldIn r)
-host-edit-headers κs a r s kept = said-of _ _ _ (edit-told κs a r s kept) (edit-says (now (a .0)) (a .1 .0) (a .1 .1 .0) (a .1 .1 .1 .0))
+pub host-edit-headers : (κs : L.Lfts 1) (a : K.Dens κs edit-kinds.ps) (r : _) (s : _) → edit-call.Post κs a r s → (year : Year) → Names (a .0) year → HeadersSaid (now (a .1 .0)) (toldIn r)
+host-edit-headers κs a r s kept year names = said-of _ _ _ (edit-told κs a r s kept (small (a .0) year names) ∙ under-named (a .0) (λ (y : Year). editTold y (now (a .1 .0)) (a .1 .1 .0) (a .1 .1 .1 .0) (a .1 .1 .1 .1 .0)) year names) (edit-says year (now (a .1 .0)) (a .1 .1 .0) (a .1 .1 .1 .0) (a .1 .1 .1 .1 .0))

@@ -14,6 +14,8 @@ use Rattle.answers.specs.declared.Refusal.{Refusal}
 use Rattle.answers.specs.declared.Outcome.{Outcome}
 use Rattle.answers.specs.declared.Outcome.the-variants.{Done, Refused}
 use Rattle.answers.proofs.Injective.{refusal-told, number-ranged}
+use Rattle.years.specs.declared.Year.{Year}
+use Rattle.years.proofs.YearLaws.{by-year, under-named, under-none}
 use Rattle.host_answers.specs.Packed.{packed}
 use Rattle.intake.specs.Intake.{taken}
 use Rattle.intake.proofs.IntakeExactly.{IntakeRow, bad-headers, cut, column, surplus, fine, row}
@@ -44,14 +46,20 @@ answer-is (Refused r) true e = absurd (never-0 r (ap (λ (x : Outcome). packed (
 answer-is (Refused r) false e = ne-eqb (packed (numbered r)) 0 (never-0 r)
 
 -- a refusal's number is above 0, and an accepted cell's answer holds a grid
-by-row : (s : List ℕ) (t : Told) → IntakeRow s t → packed t ≡ 0 → ⊥
+by-row : (year : Year) (s : List ℕ) (t : Told) → IntakeRow year s t → packed t ≡ 0 → ⊥
 unfolding packed
-by-row s _ (bad-headers r e) z = never-0 r z
-by-row s _ (cut h k u f short) z = omega arith
-by-row s _ (column h k u f whole r e) z = never-0 r z
-by-row s _ (surplus h f past) z = omega arith
-by-row s _ (fine cell) z = omega arith
+by-row year s _ (bad-headers r e) z = never-0 r z
+by-row year s _ (cut h k u f short) z = omega arith
+by-row year s _ (column h k u f whole r e) z = never-0 r z
+by-row year s _ (surplus h f past) z = omega arith
+by-row year s _ (fine cell) z = omega arith
 
 -- so 0 is no answer of intake
 pub intake-never-0 : (κs : L.Lfts 1) (a : K.Dens κs intake-kinds.ps) (r : _) (s : _) → intake.Post κs a r s → r ≡ 0 → ⊥
-intake-never-0 κs a r s kept e = by-row (now (a .0)) (taken (now (a .0))) (row (now (a .0))) (sym kept ∙ e)
+unfolding packed
+intake-never-0 κs a r s kept e =
+    let l = now (a .1 .0) in
+    let tells : Year → Told = λ year. taken year l in
+    by-year (a .0)
+    (λ none. let told = sym (ap packed (under-none (a .0) tells none)) ∙ sym kept ∙ e in omega (arith, told))
+    (λ year names. by-row year l (taken year l) (row year l) (sym (ap packed (under-named (a .0) tells year names)) ∙ sym kept ∙ e))

@@ -25,6 +25,8 @@ use Rattle.description.proofs.RangedItems.{failed-below}
 use Rattle.cell_writer.specs.Cell.{postsDue, frameFor}
 use Rattle.cell_writer.proofs.GridDue.{due-ranged}
 use Rattle.octets.proofs.JoinedLaws.{parts-small}
+use Rattle.years.specs.declared.Year.{Year}
+use Rattle.description.specs.Facts.{factsFor}
 use Rattle.cell_writer.proofs.ItemExactly.{item, then-rest}
 use Rattle.host_items.specs.Items.{numberTests, descriptionOf}
 use Rattle.host_writers.specs.Cell.{judgedBytes, bytesTold}
@@ -38,20 +40,20 @@ use Rattle.dted.specs.Grid.{saidOfLaid, gridTold}
 use Rattle.dted.specs.Description.{saidOfDescribed}
 use Rattle.demands.proofs.PlacesFit.{small-fits, ranged-fits, headers-fit, posts-fits, number-fits}
 
-cell-by : (items : List ℤ) (grid : List ℕ) (room : ℕ) (x : Outcome) → cell.CellRow items grid room x → Fits (told act x)
+cell-by : (year : Year) (items : List ℤ) (grid : List ℕ) (room : ℕ) (x : Outcome) → cell.CellRow year items grid room x → Fits (told act x)
 unfolding numberTests
-cell-by items grid room _ (item n low) =
+cell-by year items grid room _ (item n low) =
     small-fits 9 (suc n) (lit< tt) (lit< tt) (omega (arith, failed-below (numberTests items) n (low .0)))
-cell-by items grid room x (then-rest _ e r) =
+cell-by year items grid room x (then-rest _ e r) =
     let d = descriptionOf items in
-    let g = due-ranged d (in-range items (number-exactly items .0 .1 e)) (frameFor d .grid) refl in
-    let posts = parts-small (frameFor d .grid .columns) (frameFor d .grid .posts) (g .columns-high) (omega (arith, g .posts-high)) in
-    posts-fits (postsDue (frameFor d .grid)) (frameFor d .grid .bytes .cell) (frameFor d .voids) (inBytes grid) room (omega (arith, posts)) (g .cell-high) x r
+    let g = due-ranged d (in-range items (number-exactly items .0 .1 e)) (factsFor d .grid) refl in
+    let posts = parts-small (factsFor d .grid .columns) (factsFor d .grid .posts) (g .columns-high) (omega (arith, g .posts-high)) in
+    posts-fits (postsDue (factsFor d .grid)) (factsFor d .grid .bytes .cell) (frameFor year d .voids) (inBytes grid) room (omega (arith, posts)) (g .cell-high) x r
 
 -- the writer
-pub write-fits : (items : List ℤ) (grid out : List ℕ) → Fits (bytesTold items grid out)
+pub write-fits : (year : Year) (items : List ℤ) (grid out : List ℕ) → Fits (bytesTold year items grid out)
 unfolding bytesTold
-write-fits items grid out = cell-by items grid (length out) (judgedBytes items grid (length out)) (cell.row items grid (length out))
+write-fits year items grid out = cell-by year items grid (length out) (judgedBytes year items grid (length out)) (cell.row year items grid (length out))
 
 -- the column writer
 pub write-column-fits : (level number : ℕ) (posts out : List ℕ) → Fits (columnBytesTold level number posts out)

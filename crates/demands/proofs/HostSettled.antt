@@ -37,11 +37,11 @@ pub describe-settled : (κs : L.Lfts 2) (a : K.Dens κs describe-kinds.ps) (r r'
 describe-settled κs a r r' s s' p q = (p .0 ∙ sym (q .0), p .1 ∙ sym (q .1))
 
 pub edit-settled : (κs : L.Lfts 1) (a : K.Dens κs edit-kinds.ps) (r r' : _) (s s' : _) → edit.Post κs a r s → edit.Post κs a r' s'
-    → (r ≡ r') × (now (s .0) ≡ now (s' .0))
+    → (r ≡ r') × (now (s .1 .0) ≡ now (s' .1 .0))
 edit-settled κs a r r' s s' p q = (p .0 ∙ sym (q .0), p .1 ∙ sym (q .1))
 
 pub write-settled : (κs : L.Lfts 3) (a : K.Dens κs write-kinds.ps) (r r' : _) (s s' : _) → write.Post κs a r s → write.Post κs a r' s'
-    → (r ≡ r') × (now (s .0) ≡ now (s' .0))
+    → (r ≡ r') × (now (s .1 .0) ≡ now (s' .1 .0))
 write-settled κs a r r' s s' p q = (p .0 ∙ sym (q .0), p .1 ∙ sym (q .1))
 
 pub write-column-settled : (κs : L.Lfts 2) (a : K.Dens κs write-column-kinds.ps) (r r' : _) (s s' : _)

@@ -1,12 +1,14 @@
 -- B4 over the exported calls' own promises: what a C host takes out of an answer is what the call tells. So nothing is cut, heights
 -- among it, and two answers that tell something else are two numbers, of whatever calls: void is apart from every height, a height from
 -- a grid.
-use Prim.Native.Nat.{ℕ}
+use Prim.Native.Nat.{ℕ, _<_}
 use mathlib.Core.Path.{_≡_, ap, _∙_}
 use contract.Lifetimes as L
 use denote.Ref.{now}
 use borrow.Fn.Kinds as K
 use Rattle.answers.specs.Told.{Told}
+use Rattle.years.specs.declared.Year.{Year}
+use Rattle.years.specs.Years.{under}
 use Rattle.host_answers.specs.Packed.{packed}
 use Rattle.host_answers.specs.Apart.{toldIn, Fits}
 use Rattle.host_answers.proofs.TakenApart.{told-back}
@@ -35,27 +37,27 @@ use Rattle.dted.proofs.writers.dted_write.Reads as write-call
 use Rattle.dted.proofs.writers.dted_write.Kinds as write-kinds
 use Rattle.dted.proofs.writers.dted_write_column.Reads as write-column-call
 use Rattle.dted.proofs.writers.dted_write_column.Kinds as write-column-kinds
-use Rattle.demands.proofs.PlacesFit.{intake-fits, post-fits, position-fits, edit-fits}
+use Rattle.demands.proofs.PlacesFit.{intake-fits, post-fits, position-fits, edit-fits, under-fits}
 use Rattle.demands.proofs.HostFits.{write-fits, write-column-fits, grid-fits, describe-fits}
 
 -- an answer that was packed from what fits
 out-of : (t : Told) (r : ℕ) → Fits t → r ≡ packed t → toldIn r ≡ t
 out-of t r f p = ap toldIn p ∙ told-back t f
 
-pub intake-told : (κs : L.Lfts 1) (a : K.Dens κs intake-kinds.ps) (r : _) (s : _) → intake-call.Post κs a r s → toldIn r ≡ taken (now (a .0))
-intake-told κs a r s kept = out-of _ r (intake-fits (now (a .0))) kept
+pub intake-told : (κs : L.Lfts 1) (a : K.Dens κs intake-kinds.ps) (r : _) (s : _) → intake-call.Post κs a r s → a .0 < 4294967296 → toldIn r ≡ under (a .0) (λ (year : Year). taken year (now (a .1 .0)))
+intake-told κs a r s kept small = out-of _ r (under-fits (a .0) small _ (λ year. intake-fits year (now (a .1 .0)))) kept
 
 pub post-told : (κs : L.Lfts 1) (a : K.Dens κs post-kinds.ps) (r : _) (s : _) → post-call.Post κs a r s
-    → toldIn r ≡ lookedUp (now (a .0)) (a .1 .0) (a .1 .1 .0)
-post-told κs a r s kept = out-of _ r (post-fits (now (a .0)) (a .1 .0) (a .1 .1 .0)) kept
+    → a .0 < 4294967296 → toldIn r ≡ under (a .0) (λ (year : Year). lookedUp year (now (a .1 .0)) (a .1 .1 .0) (a .1 .1 .1 .0))
+post-told κs a r s kept small = out-of _ r (under-fits (a .0) small _ (λ year. post-fits year (now (a .1 .0)) (a .1 .1 .0) (a .1 .1 .1 .0))) kept
 
 pub position-told : (κs : L.Lfts 1) (a : K.Dens κs position-kinds.ps) (r : _) (s : _) → position-call.Post κs a r s
-    → toldIn r ≡ located (now (a .0)) (a .1 .0) (a .1 .1 .0)
-position-told κs a r s kept = out-of _ r (position-fits (now (a .0)) (a .1 .0) (a .1 .1 .0)) kept
+    → a .0 < 4294967296 → toldIn r ≡ under (a .0) (λ (year : Year). located year (now (a .1 .0)) (a .1 .1 .0) (a .1 .1 .1 .0))
+position-told κs a r s kept small = out-of _ r (under-fits (a .0) small _ (λ year. position-fits year (now (a .1 .0)) (a .1 .1 .0) (a .1 .1 .1 .0))) kept
 
 pub edit-told : (κs : L.Lfts 1) (a : K.Dens κs edit-kinds.ps) (r : _) (s : _) → edit-call.Post κs a r s
-    → toldIn r ≡ editTold (now (a .0)) (a .1 .0) (a .1 .1 .0) (a .1 .1 .1 .0)
-edit-told κs a r s kept = out-of _ r (edit-fits (now (a .0)) (a .1 .0) (a .1 .1 .0) (a .1 .1 .1 .0)) (kept .0)
+    → a .0 < 4294967296 → toldIn r ≡ under (a .0) (λ (year : Year). editTold year (now (a .1 .0)) (a .1 .1 .0) (a .1 .1 .1 .0) (a .1 .1 .1 .1 .0))
+edit-told κs a r s kept small = out-of _ r (under-fits (a .0) small _ (λ year. edit-fits year (now (a .1 .0)) (a .1 .1 .0) (a .1 .1 .1 .0) (a .1 .1 .1 .1 .0))) (kept .0)
 
 pub describe-told : (κs : L.Lfts 2) (a : K.Dens κs describe-kinds.ps) (r : _) (s : _) → describe-call.Post κs a r s
     → toldIn r ≡ saidOfDescribed (described (now (a .0)))
@@ -65,8 +67,8 @@ pub grid-told : (κs : L.Lfts 0) (a : K.Dens κs grid-kinds.ps) (r : _) (s : _) 
 grid-told κs a r s kept = out-of _ r (grid-fits (a .0) (a .1 .0)) kept
 
 pub write-told : (κs : L.Lfts 3) (a : K.Dens κs write-kinds.ps) (r : _) (s : _) → write-call.Post κs a r s
-    → toldIn r ≡ bytesTold (now (a .1 .0)) (now (a .1 .1 .0)) (now (a .0))
-write-told κs a r s kept = out-of _ r (write-fits (now (a .1 .0)) (now (a .1 .1 .0)) (now (a .0))) (kept .0)
+    → a .0 < 4294967296 → toldIn r ≡ under (a .0) (λ (year : Year). bytesTold year (now (a .1 .1 .0)) (now (a .1 .1 .1 .0)) (now (a .1 .0)))
+write-told κs a r s kept small = out-of _ r (under-fits (a .0) small _ (λ year. write-fits year (now (a .1 .1 .0)) (now (a .1 .1 .1 .0)) (now (a .1 .0)))) (kept .0)
 
 pub write-column-told : (κs : L.Lfts 2) (a : K.Dens κs write-column-kinds.ps) (r : _) (s : _) → write-column-call.Post κs a r s
     → toldIn r ≡ columnBytesTold (a .1 .0) (a .1 .1 .0) (now (a .1 .1 .1 .0)) (now (a .0))

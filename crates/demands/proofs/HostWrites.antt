@@ -10,10 +10,13 @@ use borrow.Fn.Kinds as K
 use Rattle.answers.specs.Told.{accepted}
 use Rattle.answers.specs.declared.Outcome.{Outcome}
 use Rattle.answers.specs.declared.Outcome.the-variants.{Done}
+use Rattle.years.specs.declared.Year.{Year}
+use Rattle.years.specs.Years.{Names}
 use Rattle.host_answers.specs.Packed.{packed}
 use Rattle.description.specs.Described.{described}
 use Rattle.fields.specs.declared.Item.{Item}
 use Rattle.description.specs.declared.Described.{Described}
+use Rattle.description.specs.Facts.{factsFor}
 use Rattle.intake.specs.Intake.{taken}
 use Rattle.lookup.specs.Lookup.{heightSaid, lookedUp}
 use Rattle.cell_writer.specs.Cell.{postsDue, frameFor, cellOf}
@@ -38,46 +41,47 @@ use Rattle.dted.proofs.descriptions.dted_describe.Reads as describe
 use Rattle.dted.proofs.descriptions.dted_describe.Kinds as describe-kinds
 use Rattle.dted.proofs.writers.dted_write.Reads as write
 use Rattle.dted.proofs.writers.dted_write.Kinds as write-kinds
+use Rattle.demands.proofs.NamedYears.{host-write-named, host-intake-named, host-post-named}
 use Rattle.demands.proofs.HostAnswers.{was-done}
 
-module _ (κs : L.Lfts 3) (a : K.Dens κs write-kinds.ps) (r : _) (s : _) (kept : write.Post κs a r s) (was : r ≡ 0) where
+module _ (κs : L.Lfts 3) (a : K.Dens κs write-kinds.ps) (r : _) (s : _) (kept : write.Post κs a r s) (year : Year) (names : Names (a .0) year) (was : r ≡ 0) where
   abbrev pub items : List ℤ
-  items = now (a .1 .0)
+  items = now (a .1 .1 .0)
 
   abbrev pub heights : List ℤ
-  heights = heightsInBytes (now (a .1 .1 .0))
+  heights = heightsInBytes (now (a .1 .1 .1 .0))
 
   -- the bytes that the call wrote
   abbrev pub cell : List ℕ
   cell = cellOf (descriptionOf items) heights
 
-  accepted-call : judgedBytes items (now (a .1 .1 .0)) (length (now (a .0))) ≡ Done
+  accepted-call : judgedBytes year items (now (a .1 .1 .1 .0)) (length (now (a .1 .0))) ≡ Done
   unfolding bytesTold
-  accepted-call = was-done (judgedBytes items (now (a .1 .1 .0)) (length (now (a .0)))) (sym (kept .0) ∙ was)
+  accepted-call = was-done (judgedBytes year items (now (a .1 .1 .1 .0)) (length (now (a .1 .0)))) (sym (host-write-named κs a r s kept year names .0) ∙ was)
 
-  fine : Ready items (now (a .1 .1 .0)) (length (now (a .0)))
-  fine = ready items (now (a .1 .1 .0)) (length (now (a .0))) accepted-call
+  fine : Ready year items (now (a .1 .1 .1 .0)) (length (now (a .1 .0)))
+  fine = ready year items (now (a .1 .1 .1 .0)) (length (now (a .1 .0))) accepted-call
 
-  all : length heights ≡ postsDue (frameFor (descriptionOf items) .grid)
+  all : length heights ≡ postsDue (factsFor (descriptionOf items) .grid)
   all = fine-long _ _ _ _ _ (fine .fine)
 
-  held : Held (frameFor (descriptionOf items) .voids) heights
+  held : Held (frameFor year (descriptionOf items) .voids) heights
   held = fine-held _ _ _ _ _ (fine .fine)
 
   -- the output begins with them, and past them is as it was
-  pub written : now (s .0) ≡ cell ++ drop (length cell) (now (a .0))
+  pub written : now (s .1 .0) ≡ cell ++ drop (length cell) (now (a .1 .0))
   unfolding bytesOutput
-  written = kept .1 ∙ ap (λ (x : Outcome). outputAfter x cell (now (a .0))) accepted-call
+  written = host-write-named κs a r s kept year names .1 ∙ ap (λ (x : Outcome). outputAfter x cell (now (a .1 .0))) accepted-call
 
   -- none of their words is the second word of height 0
   pub plain : Plain (wordsOfCell cell)
-  plain = written-plain (descriptionOf items) (in-range items (fine .numbers)) heights all held
+  plain = written-plain year (descriptionOf items) (in-range items (fine .numbers)) heights all held
 
-  pub taken-back : (κs' : L.Lfts 1) (b : K.Dens κs' intake-kinds.ps) (q : _) (t : _) → now (b .0) ≡ cell → intake.Post κs' b q t
-      → q ≡ packed (accepted (frameFor (descriptionOf items) .grid .level) (frameFor (descriptionOf items) .grid .columns) (frameFor (descriptionOf items) .grid .posts))
-  taken-back κs' b q t same kept' =
-      kept' ∙ ap (λ (l : List ℕ). packed (taken l)) same
-      ∙ ap packed (restored-accepted (descriptionOf items) (in-range items (fine .numbers)) heights all held)
+  pub taken-back : (κs' : L.Lfts 1) (b : K.Dens κs' intake-kinds.ps) (q : _) (t : _) → now (b .1 .0) ≡ cell → intake.Post κs' b q t → Names (b .0) year
+      → q ≡ packed (accepted (factsFor (descriptionOf items) .grid .level) (factsFor (descriptionOf items) .grid .columns) (factsFor (descriptionOf items) .grid .posts))
+  taken-back κs' b q t same kept' names' =
+      host-intake-named κs' b q t kept' year names' ∙ ap (λ (l : List ℕ). packed (taken year l)) same
+      ∙ ap packed (restored-accepted year (descriptionOf items) (in-range items (fine .numbers)) heights all held)
 
   -- the thirteen numbers come back, each in its item's place
   pub described-back : (κs' : L.Lfts 2) (b : K.Dens κs' describe-kinds.ps) (q : _) (t : _) → now (b .0) ≡ cell → describe.Post κs' b q t
@@ -90,9 +94,9 @@ module _ (κs : L.Lfts 3) (a : K.Dens κs write-kinds.ps) (r : _) (s : _) (kept 
       in
       (ap length back, λ i. ap (λ (zs : List ℤ). itemIn zs i) back ∙ description-back items (fine .numbers) i)
 
-  pub posts-back : (κs' : L.Lfts 1) (b : K.Dens κs' post-kinds.ps) (q : _) (t : _) → now (b .0) ≡ cell → post.Post κs' b q t
-      → b .1 .0 < frameFor (descriptionOf items) .grid .columns → b .1 .1 .0 < frameFor (descriptionOf items) .grid .posts
-      → q ≡ packed (heightSaid (heightAt (frameFor (descriptionOf items) .grid .posts) heights (b .1 .0) (b .1 .1 .0)))
-  posts-back κs' b q t same kept' hc hp =
-      kept' ∙ ap (λ (l : List ℕ). packed (lookedUp l (b .1 .0) (b .1 .1 .0))) same
-      ∙ ap packed (restored-post (descriptionOf items) (in-range items (fine .numbers)) heights all held (b .1 .0) (b .1 .1 .0) hc hp)
+  pub posts-back : (κs' : L.Lfts 1) (b : K.Dens κs' post-kinds.ps) (q : _) (t : _) → now (b .1 .0) ≡ cell → post.Post κs' b q t → Names (b .0) year
+      → b .1 .1 .0 < factsFor (descriptionOf items) .grid .columns → b .1 .1 .1 .0 < factsFor (descriptionOf items) .grid .posts
+      → q ≡ packed (heightSaid (heightAt (factsFor (descriptionOf items) .grid .posts) heights (b .1 .1 .0) (b .1 .1 .1 .0)))
+  posts-back κs' b q t same kept' names' hc hp =
+      host-post-named κs' b q t kept' year names' ∙ ap (λ (l : List ℕ). packed (lookedUp year l (b .1 .1 .0) (b .1 .1 .1 .0))) same
+      ∙ ap packed (restored-post year (descriptionOf items) (in-range items (fine .numbers)) heights all held (b .1 .1 .0) (b .1 .1 .1 .0) hc hp)

@@ -1,5 +1,8 @@
 -- The theorems about the library as a whole.
 pub mod Examples
+pub mod NamedYears
+pub mod UnknownYears
+pub mod BothYears
 pub mod WrittenCells
 pub mod EditChain
 pub mod EditedCells
@@ -12,6 +15,7 @@ pub mod HostAnswers
 pub mod HostWrites
 pub mod HostEdits
 pub mod HostTold
+pub mod YearFirst
 pub mod HeaderFields
 pub mod CellsTaken
 pub mod RefusedLeaves

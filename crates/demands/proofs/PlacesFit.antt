@@ -52,6 +52,9 @@ use Rattle.lookup.proofs.ReachedExactly as exactly
 use Rattle.position.specs.Position.{nearestColumn, nearestPost, saidAt, readAt, located}
 use Rattle.position.proofs.PositionExactly as position
 use Rattle.octets.proofs.JoinedLaws.{part-within}
+use Rattle.years.specs.declared.Year.{Year}
+use Rattle.years.specs.Years.{under}
+use Rattle.years.proofs.YearLaws.{by-year, under-named, under-none}
 use Rattle.sources.specs.Heights.{Heights}
 use Rattle.column_writer.proofs.PostsExactly.{PostsRow, differs, not-held, no-room, fine}
 use Rattle.column_writer.proofs.NumberExactly.{NumberRow, level-past, number-past, then-rest}
@@ -135,53 +138,53 @@ module _ (s : List ℕ) (f : Frame) (in-range : Ranged (f .grid)) where
       (λ e. rw e (next-fits k here (judgedColumn (columnAt s g k) k (g .posts) (f .voids) (startOf g k)) refl _ (columns-fit (k + 1) n (omega arith))))
       (λ e. rw e (small-fits 3 (startOf g k) (lit< tt) (lit< tt) (omega (arith, end-small g in-range k here))))
 
-intake-by : (s : List ℕ) (x : JudgedHeaders) → judged s ≡ x → Fits (takenBy s x)
-intake-by s (headers.Good f) e = columns-fit s (frameOf f) (good-facts s f e .grid) 0 (f .grid .columns) (omega arith)
-intake-by s (headers.Refused r) e = headers-fit s r e
+intake-by : (year : Year) (s : List ℕ) (x : JudgedHeaders) → judged s ≡ x → Fits (takenBy year s x)
+intake-by year s (headers.Good f) e = columns-fit s (frameOf year f) (good-facts s f e .grid) 0 (f .grid .columns) (omega arith)
+intake-by year s (headers.Refused r) e = headers-fit s r e
 
 -- intake
-pub intake-fits : (s : List ℕ) → Fits (taken s)
+pub intake-fits : (year : Year) (s : List ℕ) → Fits (taken year s)
 unfolding taken
-intake-fits s = intake-by s (judged s) refl
+intake-fits year s = intake-by year s (judged s) refl
+
+follows-ranged : (s : List ℕ) → Follows s → Ranged (factsIn s .grid)
+follows-ranged s h = good-facts s (factsIn s) (follows-good s h) .grid
 
 -- a post that is reached, or not, under what is said of it
-module _ (s : List ℕ) (c p : ℕ) where
-  follows-ranged : Follows s → Ranged (frameIn s .grid)
-  follows-ranged h = good-facts s (factsIn s) (follows-good s h) .grid
-
-  refused-fits : (x : Reached) → exactly.Row s c p x → (r : Refusal) → x ≡ reach.Refused r → Fits (numbered r)
+module _ (year : Year) (s : List ℕ) (c p : ℕ) where
+  refused-fits : (x : Reached) → exactly.Row year s c p x → (r : Refusal) → x ≡ reach.Refused r → Fits (numbered r)
   refused-fits _ (exactly.bad-headers r e) q same = let t : r ≡ q = cc in subst (λ (y : Refusal). Fits (numbered y)) t (headers-fit s r e)
   refused-fits _ (exactly.off h away) q same = let t : because.OffGrid ≡ q = cc in subst (λ (y : Refusal). Fits (numbered y)) t off-grid-fits
   refused-fits _ (exactly.cut o cut-off) q same =
-      let t : because.Cut (startOf (frameIn s .grid) c) ≡ q = cc in
+      let t : because.Cut (startOf (factsIn s .grid) c) ≡ q = cc in
       subst (λ (y : Refusal). Fits (numbered y)) t
-      (small-fits 3 (startOf (frameIn s .grid) c) (lit< tt) (lit< tt)
-      (omega (arith, end-small (frameIn s .grid) (follows-ranged (o .headers)) c (o .column))))
+      (small-fits 3 (startOf (factsIn s .grid) c) (lit< tt) (lit< tt)
+      (omega (arith, end-small (factsIn s .grid) (follows-ranged s (o .headers)) c (o .column))))
   refused-fits _ (exactly.column o whole r e) q same =
       let t : r ≡ q = cc in
-      let g = follows-ranged (o .headers) in
+      let g = follows-ranged s (o .headers) in
       subst (λ (y : Refusal). Fits (numbered y)) t
-      (column-fits _ c (frameIn s .grid .posts) (frameIn s .voids) (startOf (frameIn s .grid) c)
-      (omega (arith, end-small (frameIn s .grid) g c (o .column), g .column)) r e)
+      (column-fits _ c (factsIn s .grid .posts) (frameIn year s .voids) (startOf (factsIn s .grid) c)
+      (omega (arith, end-small (factsIn s .grid) g c (o .column), g .column)) r e)
   refused-fits _ (exactly.good o whole g) q same = let z : _≡_ {A = ℕ} 0 1 = cc in absurd (omega arith)
 
   -- the word of a good column reads as a height in range, or as void
-  allowed-reads : exactly.OnGrid s c p → GoodColumn (columnAt s (frameIn s .grid) c) c (frameIn s .grid .posts) (frameIn s .voids)
-      → Reads (frameIn s .voids) (postOf (wordIn (columnAt s (frameIn s .grid) c) p))
-  allowed-reads o g = reads.reads (frameIn s .voids) (wordIn (columnAt s (frameIn s .grid) c) p) (g .words p (o .post))
+  allowed-reads : exactly.OnGrid s c p → GoodColumn (columnAt s (factsIn s .grid) c) c (factsIn s .grid .posts) (frameIn year s .voids)
+      → Reads (frameIn year s .voids) (postOf (wordIn (columnAt s (factsIn s .grid) c) p))
+  allowed-reads o g = reads.reads (frameIn year s .voids) (wordIn (columnAt s (factsIn s .grid) c) p) (g .words p (o .post))
 
-  post-fits-by : (x : Reached) → exactly.Row s c p x → Fits (told telling.post (readingOf x))
+  post-fits-by : (x : Reached) → exactly.Row year s c p x → Fits (told telling.post (readingOf x))
   post-fits-by _ (exactly.bad-headers r e) = refused-fits _ (exactly.bad-headers r e) r refl
   post-fits-by _ (exactly.off h away) = refused-fits _ (exactly.off h away) because.OffGrid refl
   post-fits-by _ (exactly.cut o cut-off) = refused-fits _ (exactly.cut o cut-off) _ refl
   post-fits-by _ (exactly.column o whole r e) = refused-fits _ (exactly.column o whole r e) r refl
   post-fits-by _ (exactly.good o whole g) = said-fits (allowed-reads o g)
     where
-      said-fits : {x : Post} → Reads (frameIn s .voids) x → Fits (told telling.post (postReads x))
+      said-fits : {x : Post} → Reads (frameIn year s .voids) x → Fits (told telling.post (postReads x))
       said-fits (reads.height z e) = fits.height z (height-fits z e)
       said-fits (reads.void e) = fits.void
 
-  near-fits-by : (x : Reached) → exactly.Row s c p x → Fits (readAt c p x)
+  near-fits-by : (x : Reached) → exactly.Row year s c p x → Fits (readAt c p x)
   near-fits-by _ (exactly.bad-headers r e) = refused-fits _ (exactly.bad-headers r e) r refl
   near-fits-by _ (exactly.off h away) = refused-fits _ (exactly.off h away) because.OffGrid refl
   near-fits-by _ (exactly.cut o cut-off) = refused-fits _ (exactly.cut o cut-off) _ refl
@@ -190,37 +193,44 @@ module _ (s : List ℕ) (c p : ℕ) where
     where
       small : (c < 65536) × (p < 65536)
       small =
-          let f = follows-ranged (o .headers) in
+          let f = follows-ranged s (o .headers) in
           (omega (arith, o .column, f .columns-high), omega (arith, o .post, f .posts-high))
 
-      said-fits : {x : Post} → Reads (frameIn s .voids) x → Fits (saidAt c p (postReads x))
+      said-fits : {x : Post} → Reads (frameIn year s .voids) x → Fits (saidAt c p (postReads x))
       said-fits (reads.height z e) = fits.heightAt c p z (small .0) (small .1) (height-fits z e)
       said-fits (reads.void e) = fits.voidAt c p (small .0) (small .1)
 
 -- post lookup
-pub post-fits : (s : List ℕ) (c p : ℕ) → Fits (lookedUp s c p)
+pub post-fits : (year : Year) (s : List ℕ) (c p : ℕ) → Fits (lookedUp year s c p)
 unfolding lookedUp
-post-fits s c p = post-fits-by s c p (reached s c p) (exactly.row s c p)
+post-fits year s c p = post-fits-by year s c p (reached year s c p) (exactly.row year s c p)
 
 -- position lookup
-position-by : (s : List ℕ) (latitude longitude : ℤ) (t : Told) → position.Row s latitude longitude t → Fits t
-position-by s latitude longitude _ (position.bad-headers r e) = headers-fit s r e
-position-by s latitude longitude _ (position.off f j e) = off-grid-fits
-position-by s latitude longitude _ (position.near f j k e) =
-    near-fits-by s (nearestColumn (f .grid) k) (nearestPost (f .grid) k) (reached s (nearestColumn (f .grid) k) (nearestPost (f .grid) k)) (exactly.row s (nearestColumn (f .grid) k) (nearestPost (f .grid) k))
+position-by : (year : Year) (s : List ℕ) (latitude longitude : ℤ) (t : Told) → position.Row year s latitude longitude t → Fits t
+position-by year s latitude longitude _ (position.bad-headers r e) = headers-fit s r e
+position-by year s latitude longitude _ (position.off f j e) = off-grid-fits
+position-by year s latitude longitude _ (position.near f j k e) =
+    near-fits-by year s (nearestColumn (f .grid) k) (nearestPost (f .grid) k) (reached year s (nearestColumn (f .grid) k) (nearestPost (f .grid) k)) (exactly.row year s (nearestColumn (f .grid) k) (nearestPost (f .grid) k))
 
-pub position-fits : (s : List ℕ) (latitude longitude : ℤ) → Fits (located s latitude longitude)
-position-fits s latitude longitude = position-by s latitude longitude (located s latitude longitude) (position.row s latitude longitude)
+pub position-fits : (year : Year) (s : List ℕ) (latitude longitude : ℤ) → Fits (located year s latitude longitude)
+position-fits year s latitude longitude = position-by year s latitude longitude (located year s latitude longitude) (position.row year s latitude longitude)
 
 -- the edit
-edit-by : (s : List ℕ) (c p : ℕ) (z : ℤ) (x : Outcome) → edit-rows.EditRow s c p z x → Fits (told act x)
-edit-by s c p z _ (edit-rows.reaching r row) = refused-fits s c p (reach.Refused r) row r refl
-edit-by s c p z _ (edit-rows.height r bad) = fits.refused 11 0 (lit< tt) (lit< tt) (lit< tt)
-edit-by s c p z _ (edit-rows.done r a) = fits.done
+edit-by : (year : Year) (s : List ℕ) (c p : ℕ) (z : ℤ) (x : Outcome) → edit-rows.EditRow year s c p z x → Fits (told act x)
+edit-by year s c p z _ (edit-rows.reaching r row) = refused-fits year s c p (reach.Refused r) row r refl
+edit-by year s c p z _ (edit-rows.height r bad) = fits.refused 11 0 (lit< tt) (lit< tt) (lit< tt)
+edit-by year s c p z _ (edit-rows.done r a) = fits.done
 
-pub edit-fits : (s : List ℕ) (c p : ℕ) (z : ℤ) → Fits (editTold s c p z)
+pub edit-fits : (year : Year) (s : List ℕ) (c p : ℕ) (z : ℤ) → Fits (editTold year s c p z)
 unfolding editTold
-edit-fits s c p z = edit-by s c p z (judgedEdit s c p z) (edit-rows.row s c p z)
+edit-fits year s c p z = edit-by year s c p z (judgedEdit year s c p z) (edit-rows.row year s c p z)
+
+-- the number that names a year has 32 bits, and so is a place where it names none
+pub under-fits : (n : ℕ) → n < 4294967296 → (tells : Year → Told) → ((year : Year) → Fits (tells year)) → Fits (under n tells)
+under-fits n small tells each =
+    by-year n
+    (λ none. subst Fits (sym (under-none n tells none)) (fits.refused 17 n (lit< tt) (lit< tt) (omega arith)))
+    (λ year names. subst Fits (sym (under-named n tells year names)) (each year))
 
 -- the writers
 pub posts-fits : (posts bytes : ℕ) (voids : Bool) (g : Heights) (room : ℕ) → posts ≤ most → bytes ≤ most

@@ -11,6 +11,9 @@ use borrow.Fn.Kinds as K
 use Rattle.answers.specs.Told.{Told, numberTold, told, act}
 use Rattle.answers.specs.declared.Outcome.{Outcome}
 use Rattle.answers.specs.declared.Outcome.the-variants.{Done, Refused}
+use Rattle.years.specs.declared.Year.{Year}
+use Rattle.years.specs.Years.{under, leftUnder}
+use Rattle.years.proofs.YearLaws.{by-year, under-named, left-named, left-none}
 use Rattle.host_answers.specs.Packed.{packed}
 use Rattle.host_answers.specs.Apart.{numberIn, Fits}
 use Rattle.host_answers.proofs.TakenApart.{number-told}
@@ -66,39 +69,58 @@ output-leaves : (x : Outcome) (written out : List ℕ) → Leaves (told act x) o
 output-leaves Done written out some = absurd (omega arith)
 output-leaves (Refused r) written out some = refl
 
-edit-by : (l : List ℕ) (c p : ℕ) (z : ℤ) (x : Outcome) → judgedEdit l c p z ≡ x → Leaves (told act x) l (edited l c p z)
-edit-by l c p z Done e some = absurd (omega arith)
-edit-by l c p z (Refused r) e some = refused-leaves l c p z r e
+edit-by : (year : Year) (l : List ℕ) (c p : ℕ) (z : ℤ) (x : Outcome) → judgedEdit year l c p z ≡ x → Leaves (told act x) l (edited year l c p z)
+edit-by year l c p z Done e some = absurd (omega arith)
+edit-by year l c p z (Refused r) e some = refused-leaves year l c p z r e
 
 items-leaves : (x : Described) (items : List ℤ) → Leaves (saidOfDescribed x) items (itemsAfter x items)
 items-leaves (description.As d) items some = absurd (omega arith)
 items-leaves (description.Refused r) items some = refl
 
-edit-leaves : (l : List ℕ) (c p : ℕ) (z : ℤ) → Leaves (editTold l c p z) l (edited l c p z)
+edit-leaves : (year : Year) (l : List ℕ) (c p : ℕ) (z : ℤ) → Leaves (editTold year l c p z) l (edited year l c p z)
 unfolding editTold
-edit-leaves l c p z = edit-by l c p z (judgedEdit l c p z) refl
+edit-leaves year l c p z = edit-by year l c p z (judgedEdit year l c p z) refl
 
-bytes-leaves : (items : List ℤ) (grid out : List ℕ) → Leaves (bytesTold items grid out) out (bytesOutput items grid out)
+bytes-leaves : (year : Year) (items : List ℤ) (grid out : List ℕ) → Leaves (bytesTold year items grid out) out (bytesOutput year items grid out)
 unfolding bytesTold bytesOutput
-bytes-leaves items grid out = output-leaves (judgedBytes items grid (length out)) (cellOf (descriptionOf items) (heightsInBytes grid)) out
+bytes-leaves year items grid out = output-leaves (judgedBytes year items grid (length out)) (cellOf (descriptionOf items) (heightsInBytes grid)) out
 
 column-bytes-leaves : (level number : ℕ) (posts out : List ℕ) → Leaves (columnBytesTold level number posts out) out (columnBytesOutput level number posts out)
 unfolding columnToldFrom columnOutputFrom
 column-bytes-leaves level number posts out = output-leaves (judgedColumnWrite level number (inBytes posts) (length out)) (columnOf number (heightsInBytes posts)) out
 
+-- N17: 17 leaves them too
+under-leaves : (n : ℕ) (tells : Year → Told) (before : List ℕ) (leaves : Year → List ℕ) → ((year : Year) → Leaves (tells year) before (leaves year))
+    → Leaves (under n tells) before (leftUnder n before leaves)
+under-leaves n tells before leaves each some =
+    by-year n
+    (λ none. left-none n before leaves none)
+    (λ year names.
+    left-named n before leaves year names ∙ each year (subst (λ (t : Told). 0 < numberTold t) (under-named n tells year names) some))
+
+packed-under : (n : ℕ) (tells : Year → Told) (r : ℕ) (before : List ℕ) (leaves : Year → List ℕ) (after : List ℕ) → ((year : Year) → Fits (tells year))
+    → r ≡ packed (under n tells) → after ≡ leftUnder n before leaves → ((year : Year) → Leaves (tells year) before (leaves year)) → 0 < numberIn r → after ≡ before
+packed-under n tells r before leaves after fits e f each some =
+    by-year n
+    (λ none. f ∙ left-none n before leaves none)
+    (λ year names.
+    packed-so (tells year) r before (leaves year) after (fits year) (e ∙ ap packed (under-named n tells year names)) (f ∙ left-named n before leaves year names) (each year) some)
+
 -- the inner calls
 pub edit-refused : (κs : L.Lfts 1) (a : K.Dens κs edit-kinds.ps) (r : _) (s : _) → edit.Post κs a r s
-    → 0 < numberTold (told act r) → now (s .0) ≡ now (a .0)
-edit-refused κs a r s kept = told-so _ (told act r) _ _ _ (kept .0) (kept .1) (edit-leaves (now (a .0)) (a .1 .0) (a .1 .1 .0) (a .1 .1 .1 .0))
+    → 0 < numberTold (told act r) → now (s .1 .0) ≡ now (a .1 .0)
+edit-refused κs a r s kept =
+    told-so _ (told act r) _ _ _ (kept .0) (kept .1)
+    (under-leaves (a .0) _ _ _ (λ year. edit-leaves year (now (a .1 .0)) (a .1 .1 .0) (a .1 .1 .1 .0) (a .1 .1 .1 .1 .0)))
 
 pub write-refused : (κs : L.Lfts 2) (a : K.Dens κs write-kinds.ps) (r : _) (s : _) → write.Post κs a r s
-    → 0 < numberTold (told act r) → now (s .0) ≡ now (a .0)
+    → 0 < numberTold (told act r) → now (s .1 .0) ≡ now (a .1 .0)
 unfolding cellTold cellOutput
 write-refused κs a r s kept =
-    let d = a .1 .0 in
-    let zs = now (a .1 .1 .0) in
-    let out = now (a .0) in
-    told-so _ (told act r) _ _ _ (kept .0) (kept .1) (output-leaves (judgedCellWrite d (numbers zs) (length out)) (cellOf d zs) out)
+    let d = a .1 .1 .0 in
+    let zs = now (a .1 .1 .1 .0) in
+    let out = now (a .1 .0) in
+    told-so _ (told act r) _ _ _ (kept .0) (kept .1) (under-leaves (a .0) _ _ _ (λ year. output-leaves (judgedCellWrite year d (numbers zs) (length out)) (cellOf d zs) out))
 
 pub write-column-refused : (κs : L.Lfts 2) (a : K.Dens κs write-column-kinds.ps) (r : _) (s : _) → write-column.Post κs a r s
     → 0 < numberTold (told act r) → now (s .0) ≡ now (a .0)
@@ -110,9 +132,9 @@ write-column-refused κs a r s kept =
     told-so _ (told act r) _ _ _ (kept .0) (kept .1) (output-leaves (judgedColumnWrite (a .1 .0) k (numbers zs) (length out)) (columnOf k zs) out)
 
 pub write-bytes-refused : (κs : L.Lfts 3) (a : K.Dens κs write-bytes-kinds.ps) (r : _) (s : _) → write-bytes.Post κs a r s
-    → 0 < numberTold (told act r) → now (s .0) ≡ now (a .0)
+    → 0 < numberTold (told act r) → now (s .1 .0) ≡ now (a .1 .0)
 write-bytes-refused κs a r s kept =
-    told-so _ (told act r) _ _ _ (kept .0) (kept .1) (bytes-leaves (now (a .1 .0)) (now (a .1 .1 .0)) (now (a .0)))
+    told-so _ (told act r) _ _ _ (kept .0) (kept .1) (under-leaves (a .0) _ _ _ (λ year. bytes-leaves year (now (a .1 .1 .0)) (now (a .1 .1 .1 .0)) (now (a .1 .0))))
 
 pub write-column-bytes-refused : (κs : L.Lfts 2) (a : K.Dens κs write-column-bytes-kinds.ps) (r : _) (s : _) → write-column-bytes.Post κs a r s
     → 0 < numberTold (told act r) → now (s .0) ≡ now (a .0)
@@ -121,11 +143,11 @@ write-column-bytes-refused κs a r s kept =
 
 -- the exported calls
 pub host-edit-refused : (κs : L.Lfts 1) (a : K.Dens κs host-edit-kinds.ps) (r : _) (s : _) → host-edit.Post κs a r s
-    → 0 < numberIn r → now (s .0) ≡ now (a .0)
+    → 0 < numberIn r → now (s .1 .0) ≡ now (a .1 .0)
 host-edit-refused κs a r s kept =
-    let l = now (a .0) in
-    let z = a .1 .1 .1 .0 in
-    packed-so _ r _ _ _ (edit-fits l (a .1 .0) (a .1 .1 .0) z) (kept .0) (kept .1) (edit-leaves l (a .1 .0) (a .1 .1 .0) z)
+    let l = now (a .1 .0) in
+    let z = a .1 .1 .1 .1 .0 in
+    packed-under (a .0) _ r _ _ _ (λ year. edit-fits year l (a .1 .1 .0) (a .1 .1 .1 .0) z) (kept .0) (kept .1) (λ year. edit-leaves year l (a .1 .1 .0) (a .1 .1 .1 .0) z)
 
 pub host-describe-refused : (κs : L.Lfts 2) (a : K.Dens κs host-describe-kinds.ps) (r : _) (s : _) → host-describe.Post κs a r s
     → 0 < numberIn r → now (s .1 .0) ≡ now (a .1 .0)
@@ -133,11 +155,11 @@ host-describe-refused κs a r s kept =
     packed-so _ r _ _ _ (describe-fits (now (a .0))) (kept .0) (kept .1) (items-leaves (described (now (a .0))) (now (a .1 .0)))
 
 pub host-write-refused : (κs : L.Lfts 3) (a : K.Dens κs host-write-kinds.ps) (r : _) (s : _) → host-write.Post κs a r s
-    → 0 < numberIn r → now (s .0) ≡ now (a .0)
+    → 0 < numberIn r → now (s .1 .0) ≡ now (a .1 .0)
 host-write-refused κs a r s kept =
-    let items = now (a .1 .0) in
-    let grid = now (a .1 .1 .0) in
-    packed-so _ r _ _ _ (write-fits items grid (now (a .0))) (kept .0) (kept .1) (bytes-leaves items grid (now (a .0)))
+    let items = now (a .1 .1 .0) in
+    let grid = now (a .1 .1 .1 .0) in
+    packed-under (a .0) _ r _ _ _ (λ year. write-fits year items grid (now (a .1 .0))) (kept .0) (kept .1) (λ year. bytes-leaves year items grid (now (a .1 .0)))
 
 pub host-write-column-refused : (κs : L.Lfts 2) (a : K.Dens κs host-write-column-kinds.ps) (r : _) (s : _) → host-write-column.Post κs a r s
     → 0 < numberIn r → now (s .0) ≡ now (a .0)

@@ -93,7 +93,7 @@ step-settled κs a r r' s s' p q =
 
 -- the writers and the edit: the answer, and every byte of what was lent
 pub write-settled : (κs : L.Lfts 2) (a : K.Dens κs write-cell-kinds.ps) (r r' : _) (s s' : _) → write-cell.Post κs a r s → write-cell.Post κs a r' s'
-    → (r ≡ r') × (now (s .0) ≡ now (s' .0))
+    → (r ≡ r') × (now (s .1 .0) ≡ now (s' .1 .0))
 write-settled κs a r r' s s' p q = (told-injective act r r' (p .0 ∙ sym (q .0)), p .1 ∙ sym (q .1))
 
 pub write-column-settled : (κs : L.Lfts 2) (a : K.Dens κs write-column-kinds.ps) (r r' : _) (s s' : _)
@@ -101,7 +101,7 @@ pub write-column-settled : (κs : L.Lfts 2) (a : K.Dens κs write-column-kinds.p
 write-column-settled κs a r r' s s' p q = (told-injective act r r' (p .0 ∙ sym (q .0)), p .1 ∙ sym (q .1))
 
 pub write-bytes-settled : (κs : L.Lfts 3) (a : K.Dens κs write-bytes-kinds.ps) (r r' : _) (s s' : _)
-    → write-bytes.Post κs a r s → write-bytes.Post κs a r' s' → (r ≡ r') × (now (s .0) ≡ now (s' .0))
+    → write-bytes.Post κs a r s → write-bytes.Post κs a r' s' → (r ≡ r') × (now (s .1 .0) ≡ now (s' .1 .0))
 write-bytes-settled κs a r r' s s' p q = (told-injective act r r' (p .0 ∙ sym (q .0)), p .1 ∙ sym (q .1))
 
 pub write-column-bytes-settled : (κs : L.Lfts 2) (a : K.Dens κs write-column-bytes-kinds.ps) (r r' : _) (s s' : _)
@@ -109,5 +109,5 @@ pub write-column-bytes-settled : (κs : L.Lfts 2) (a : K.Dens κs write-column-b
 write-column-bytes-settled κs a r r' s s' p q = (told-injective act r r' (p .0 ∙ sym (q .0)), p .1 ∙ sym (q .1))
 
 pub edit-settled : (κs : L.Lfts 1) (a : K.Dens κs edit-kinds.ps) (r r' : _) (s s' : _) → edit-call.Post κs a r s → edit-call.Post κs a r' s'
-    → (r ≡ r') × (now (s .0) ≡ now (s' .0))
+    → (r ≡ r') × (now (s .1 .0) ≡ now (s' .1 .0))
 edit-settled κs a r r' s s' p q = (told-injective act r r' (p .0 ∙ sym (q .0)), p .1 ∙ sym (q .1))

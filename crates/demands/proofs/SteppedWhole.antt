@@ -1,7 +1,7 @@
 -- S6 over the steps' own promises: calls of `step`, from a new state on, fed with a file cut at its column edges, end with what a call of intake
 -- answers of the whole.
 use Prim.Native.Nat.{ℕ}
-use mathlib.Core.Path.{_≡_, sym, ap, subst, _∙_}
+use mathlib.Core.Path.{_≡_, sym, subst, _∙_}
 use mathlib.Core.Bool.{true}
 use mathlib.Core.List.{List, [], _∷_, _++_}
 use lib.ListN.{take}
@@ -11,6 +11,8 @@ use borrow.Fn.Kinds as K
 use Rattle.answers.specs.declared.Verdict.{Verdict}
 use Rattle.answers.specs.Told as telling
 use Rattle.answers.proofs.Injective.{told-injective}
+use Rattle.years.specs.declared.Year.{Year}
+use Rattle.years.specs.Years.{under}
 use Rattle.layout.specs.Grid.{headerBytes}
 use Rattle.headers.specs.Judged.{factsIn}
 use Rattle.intake.specs.Intake.{taken}
@@ -46,16 +48,16 @@ laterColumns l = laterPieces l (factsIn l .grid) 0 (factsIn l .grid .columns)
 
 pub stepped-whole : (l : List ℕ) (κ₀ : L.Lfts 0) (b : K.Dens κ₀ new-kinds.ps) (fresh : _) (t : _) → new.Post κ₀ b fresh t
     → (w : Verdict) → Steps (fresh .phase) (take headerBytes l) (firstColumn l ∷ laterColumns l) w
-    → (κs : L.Lfts 1) (a : K.Dens κs intake-kinds.ps) (v : _) (s : _) → intake.Post κs a v s → now (a .0) ≡ l → w ≡ v
-stepped-whole l κ₀ b fresh t new-kept w calls κs a v s kept same =
+    → (κs : L.Lfts 1) (a : K.Dens κs intake-kinds.ps) (v : _) (s : _) → intake.Post κs a v s → a .0 ≡ b .0 → now (a .1 .0) ≡ l → w ≡ v
+stepped-whole l κ₀ b fresh t new-kept w calls κs a v s kept named same =
     let begun = subst (λ (phase : Phase). Fed phase (take headerBytes l) (firstColumn l ∷ laterColumns l) w) new-kept (fed calls) in
-    told-injective telling.intake w v (steps-whole l w begun ∙ sym (kept ∙ ap taken same))
+    told-injective telling.intake w v (steps-whole (b .0) l w begun ∙ sym (kept ∙ (λ k. under (named k) (λ (year : Year). taken year (same k)))))
 
 -- so also for a caller who stops at the first final answer, with the rest of the pieces not fed
 pub stopped-whole : (l : List ℕ) (κ₀ : L.Lfts 0) (b : K.Dens κ₀ new-kinds.ps) (fresh : _) (t : _) → new.Post κ₀ b fresh t
     → (pieces rest : List (List ℕ)) → pieces ++ rest ≡ firstColumn l ∷ laterColumns l
     → (w : Verdict) → isFinal w ≡ true → Steps (fresh .phase) (take headerBytes l) pieces w
-    → (κs : L.Lfts 1) (a : K.Dens κs intake-kinds.ps) (v : _) (s : _) → intake.Post κs a v s → now (a .0) ≡ l → w ≡ v
-stopped-whole l κ₀ b fresh t new-kept pieces rest all w final calls κs a v s kept same =
+    → (κs : L.Lfts 1) (a : K.Dens κs intake-kinds.ps) (v : _) (s : _) → intake.Post κs a v s → a .0 ≡ b .0 → now (a .1 .0) ≡ l → w ≡ v
+stopped-whole l κ₀ b fresh t new-kept pieces rest all w final calls κs a v s kept named same =
     let begun = subst (λ (phase : Phase). Fed phase (take headerBytes l) pieces w) new-kept (fed calls) in
-    told-injective telling.intake w v (early.stopped-whole l pieces rest w final all begun ∙ sym (kept ∙ ap taken same))
+    told-injective telling.intake w v (early.stopped-whole (b .0) l pieces rest w final all begun ∙ sym (kept ∙ (λ k. under (named k) (λ (year : Year). taken year (same k)))))

@@ -1,13 +1,18 @@
--- The marked examples (rules M1 to M16): what is given, what it is, and what the definitions make of it.
+-- The marked examples (rules M1 to M20): what is given, what it is, and what the definitions make of it.
 use Prim.Native.Nat.{ℕ, _+_, _*_}
 use mathlib.Core.Bool.{true, false}
 use mathlib.Core.List.{List, [], _∷_, map}
 use lib.IntN.{ℤ, pos, negℤ}
 use lib.ListN.{length, drop, replicate}
 use Rattle.octets.specs.Choice.{pick}
+use Rattle.answers.specs.Told.{Told}
+use Rattle.answers.specs.Told as telling
+use Rattle.years.specs.Years.{namedOf, byNamed, under}
+use Rattle.years.specs.declared.Year.{Year}
 use Rattle.layout.specs.Zones.{edgeOf}
 use Rattle.layout.specs.Grid.{longitudeInterval, columnsOf, cellBytes, gridOf}
 use Rattle.columns.specs.Column.{sealed, columnOf, heightsIn, wordAt, sumAt}
+use Rattle.headers.specs.Judged.{voidsAllowed}
 use Rattle.headers.specs.declared.Facts.{Facts}
 use Rattle.posts.specs.Words.{wordAllowed, postOf}
 use Rattle.posts.specs.declared.Post.{Post}
@@ -48,6 +53,8 @@ pub data Input : Type 0 where
   afresh : List ℕ → ℕ → ℕ → ℤ → Input
   -- the post nearest a position, in tenths north and east of an origin so many degrees north and east
   nearest : ℕ → ℕ → ℕ → ℕ → ℕ → Input
+  -- a void under the year that is named, in a cell of this level and partial indicator
+  voidUnder : ℕ → ℕ → ℕ → Input
 
 -- what it is
 pub data Is : Type 0 where
@@ -58,18 +65,24 @@ pub data Is : Type 0 where
   octets : List ℕ → Is
   -- column and post
   post : ℕ → ℕ → Is
+  -- a refusal's number and place
+  told : ℕ → ℕ → Is
 
 abbrev pub postIs : Post → Is
 postIs (Height z) = metres z
 postIs Void = void
 
--- a complete cell of this level, its origin so many degrees north and east
-abbrev pub cellAt : ℕ → ℕ → ℕ → Facts
-cellAt level up right = record {
+abbrev pub toldIs : Told → Is
+toldIs (telling.refused n place) = told n place
+toldIs (telling.said tag values) = refused
+
+-- a cell of this level, its origin so many degrees north and east, with this partial indicator
+abbrev pub cellAt : ℕ → ℕ → ℕ → ℕ → Facts
+cellAt level up right partial = record {
   grid = gridOf level (edgeOf (90 + up));
   latitude = 90 + up;
   longitude = 180 + right;
-  partial = 0;
+  partial = partial;
 }
 
 abbrev pub nearestIs : Facts → Within → Is
@@ -94,8 +107,12 @@ made (column k zs) = octets (drop (sumAt (length zs)) (columnOf k zs))
 made (edited body posts p z) = octets (drop (wordAt 0) (editedColumn body posts p z))
 made (afresh body posts p z) = octets (drop (wordAt 0) (columnOf 0 (heightsIn (editedColumn body posts p z) posts)))
 made (nearest level up right northward eastward) =
-    nearestIs (cellAt level up right) (southWest (cellAt level up right) (pos (up * degree + northward)) (pos (right * degree + eastward)))
+    nearestIs (cellAt level up right 0) (southWest (cellAt level up right 0) (pos (up * degree + northward)) (pos (right * degree + eastward)))
 made (word w) = pick (wordAllowed true w) (postIs (postOf w)) refused
+made (voidUnder n level partial) =
+    byNamed (namedOf n)
+    (toldIs (under n (λ (year : Year). telling.done)))
+    (λ (year : Year). pick (wordAllowed (voidsAllowed year (cellAt level 0 0 partial)) 0xFFFF) (postIs (postOf 0xFFFF)) refused)
 
 -- a row of the table
 pub record Example : Type 0 where
@@ -138,6 +155,17 @@ table =
     ∷ m 14 (edited sea 2 1 (pos 7)) (octets (0x80 ∷ 0 ∷ 0 ∷ 7 ∷ 0 ∷ 0 ∷ 1 ∷ 0x31 ∷ []))
     ∷ m 15 (edited sea 2 0 (pos 0)) (octets (0 ∷ 0 ∷ 0 ∷ 5 ∷ 0 ∷ 0 ∷ 0 ∷ 0xAF ∷ []))
     ∷ m 16 (afresh sea 2 1 (pos 7)) (octets (0 ∷ 0 ∷ 0 ∷ 7 ∷ 0 ∷ 0 ∷ 0 ∷ 0xB1 ∷ []))
+    ∷ m 17 (voidUnder 1 0 1) void
+    ∷ m 17 (voidUnder 2 0 1) refused
+    ∷ m 17 (voidUnder 1 1 1) void
+    ∷ m 17 (voidUnder 2 1 1) refused
+    ∷ m 18 (voidUnder 1 2 99) void
+    ∷ m 18 (voidUnder 2 2 99) void
+    ∷ m 19 (voidUnder 1 2 0) refused
+    ∷ m 19 (voidUnder 2 2 0) refused
+    ∷ m 20 (voidUnder 0 2 1) (told 17 0)
+    ∷ m 20 (voidUnder 3 2 1) (told 17 3)
+    ∷ m 20 (voidUnder 4294967295 2 1) (told 17 4294967295)
     ∷ []
 
 -- what is given and what it is, row by row

@@ -6,10 +6,11 @@ use Rattle.posts.specs.Words.{negativeZero}
 use Rattle.description.specs.declared.Description.{Description}
 use Rattle.header_writer.specs.Written.{headersFor}
 use Rattle.cells.specs.Words.{cellOfWords}
-use Rattle.cell_writer.specs.Cell.{postsDue, frameFor}
+use Rattle.description.specs.Facts.{factsFor}
+use Rattle.cell_writer.specs.Cell.{postsDue}
 
 abbrev pub seaWords : Description → List ℕ
-seaWords d = listed (λ (i : ℕ). negativeZero) (postsDue (frameFor d .grid))
+seaWords d = listed (λ (i : ℕ). negativeZero) (postsDue (factsFor d .grid))
 
 abbrev pub seaCell : Description → List ℕ
-seaCell d = cellOfWords (headersFor d) (frameFor d .grid) (seaWords d)
+seaCell d = cellOfWords (headersFor d) (factsFor d .grid) (seaWords d)

@@ -1,16 +1,17 @@
 // The writers.
 ghost use mathlib.Core.Path.{_≡_};
+ghost use Rattle.years.specs.Years.{under, leftUnder};
 ghost use Rattle.host_answers.specs.Packed.{packed};
 ghost use Rattle.host_writers.specs.Cell.{bytesTold, bytesOutput};
 ghost use Rattle.host_writers.specs.Column.{columnBytesTold, columnBytesOutput};
 use host_items::items::ITEMS;
 
 #[no_mangle]
-pub extern "C" fn dted_write(out: &mut [u8], items: &[i64; ITEMS], grid: &[u8]) -> u64
-    ensures { λ r. ⌜ r ≡ packed (bytesTold (now (items .entry)) (now (grid .entry)) (now (out .entry))) ⌝ }
-    ensures { λ _. ⌜ now (out .exit) ≡ bytesOutput (now (items .entry)) (now (grid .entry)) (now (out .entry)) ⌝ }
+pub extern "C" fn dted_write(named: u32, out: &mut [u8], items: &[i64; ITEMS], grid: &[u8]) -> u64
+    ensures { λ r. ⌜ r ≡ packed (under named (λ year. bytesTold year (now (items .entry)) (now (grid .entry)) (now (out .entry)))) ⌝ }
+    ensures { λ _. ⌜ now (out .exit) ≡ leftUnder named (now (out .entry)) (λ year. bytesOutput year (now (items .entry)) (now (grid .entry)) (now (out .entry))) ⌝ }
 {
-    let answer = host_writers::cell::write(out, items, grid);
+    let answer = host_writers::cell::write(named, out, items, grid);
     host_answers::outcome(answer)
 }
 

@@ -7,12 +7,13 @@ use lib.ListN.{take, set}
 use Rattle.octets.specs.Numbers.{Bytes}
 use Rattle.octets.proofs.ChoiceLaws.{by-test}
 use Rattle.octets.proofs.JoinedLaws.{each-set, map-set}
+use Rattle.years.specs.declared.Year.{Year}
 use Rattle.layout.specs.Grid.{headerBytes}
 use Rattle.layout.specs.declared.Frame.{Frame}
 use Rattle.posts.specs.Words.{negativeZero}
 use Rattle.posts.specs.Heights.{wordOf, saidBy}
 use Rattle.posts.proofs.RoundTrip.{never-negative-zero, height-back}
-use Rattle.headers.specs.Judged.{frameIn}
+use Rattle.headers.specs.Judged.{frameIn, factsIn}
 use Rattle.columns.specs.Column.{wordsOf, Plain}
 use Rattle.cells.specs.Cell.{Cell}
 use Rattle.cells.specs.Words.{cellOfWords, wordsOfCell}
@@ -60,16 +61,16 @@ module _ (f : Frame) where
   plain-after [] ws plain = plain
   plain-after (e ∷ es) ws plain = plain-after es (wordsWith f ws e) (one-plain ws e plain)
 
-module _ (s : List ℕ) (cell : Cell s) (bytes : Bytes s) (es : List Call) where
-  pub edits-grid : gridIn (afterEdits s es) ≡ gridAfter (frameIn s) (gridIn s) es
-  edits-grid = ap (map saidBy) (edits-own s cell bytes es) ∙ said-after (frameIn s) es (wordsOfCell s)
+module _ {year : Year} (s : List ℕ) (cell : Cell year s) (bytes : Bytes s) (es : List Call) where
+  pub edits-grid : gridIn (afterEdits year s es) ≡ gridAfter (frameIn year s) (gridIn s) es
+  edits-grid = ap (map saidBy) (edits-own s cell bytes es) ∙ said-after (frameIn year s) es (wordsOfCell s)
 
-  pub edits-plain : Plain (wordsOfCell s) → Plain (wordsOfCell (afterEdits s es))
-  edits-plain plain = subst Plain (sym (edits-own s cell bytes es)) (plain-after (frameIn s) es (wordsOfCell s) plain)
+  pub edits-plain : Plain (wordsOfCell s) → Plain (wordsOfCell (afterEdits year s es))
+  edits-plain plain = subst Plain (sym (edits-own s cell bytes es)) (plain-after (frameIn year s) es (wordsOfCell s) plain)
 
   -- D3: where every word of the cell is the writer's
-  pub edits-afresh : Plain (wordsOfCell s) → afterEdits s es ≡ afresh (take headerBytes s) (frameIn s .grid) (gridAfter (frameIn s) (gridIn s) es)
+  pub edits-afresh : Plain (wordsOfCell s) → afterEdits year s es ≡ afresh (take headerBytes s) (factsIn s .grid) (gridAfter (frameIn year s) (gridIn s) es)
   edits-afresh plain =
       edits-left s cell bytes es
-      ∙ ap (cellOfWords (take headerBytes s) (frameIn s .grid))
-      (ap (λ (ws : List ℕ). wordsAfter (frameIn s) ws es) (sym (own-words s cell plain)) ∙ sym (words-of-after (frameIn s) es (gridIn s)))
+      ∙ ap (cellOfWords (take headerBytes s) (factsIn s .grid))
+      (ap (λ (ws : List ℕ). wordsAfter (frameIn year s) ws es) (sym (own-words s cell plain)) ∙ sym (words-of-after (frameIn year s) es (gridIn s)))

@@ -14,11 +14,12 @@ use Rattle.octets.specs.Parts.{part, joined}
 use Rattle.octets.proofs.ChoiceLaws.{by-test, both-true, both-is, either-first, clash}
 use Rattle.octets.proofs.JoinedLaws.{part-within, places-apart, length-part, getD-part, joined-same}
 use Rattle.octets.proofs.WordLaws.{words-joined}
+use Rattle.years.specs.declared.Year.{Year}
 use Rattle.layout.specs.Grid.{headerBytes}
 use Rattle.layout.specs.declared.Frame.{Frame}
 use Rattle.layout.specs.declared.Grid.{Grid}
 use Rattle.posts.specs.Heights.{wordOf}
-use Rattle.headers.specs.Judged.{frameIn}
+use Rattle.headers.specs.Judged.{frameIn, factsIn}
 use Rattle.columns.specs.Column.{sealed, columnOfWords, wordAt}
 use Rattle.columns.proofs.ColumnWords.{preamble-front, post-bytes}
 use Rattle.cells.specs.Cell.{columnAt, Cell}
@@ -129,10 +130,10 @@ module _ (f : Frame) (h ws : List ℕ) (made : Made f h ws) (es : List Call) whe
       λ i. front i ++ columns i
 
 -- D3: whatever the calls were, the bytes are the old ones with the words of the edited posts, and the checksums of their columns, replaced
-pub edits-replaced : (s : List ℕ) → Cell s → Bytes s → (es : List Call)
-    → afterEdits s es ≡ withReplaced (frameIn s .grid) s (doneAmong es (map (takes (frameIn s)) es))
-edits-replaced s cell bytes es =
-    let f = frameIn s in
+pub edits-replaced : {year : Year} (s : List ℕ) → Cell year s → Bytes s → (es : List Call)
+    → afterEdits year s es ≡ withReplaced (factsIn s .grid) s (doneAmong es (map (takes (frameIn year s)) es))
+edits-replaced {year} s cell bytes es =
+    let f = frameIn year s in
     edits-left s cell bytes es
     ∙ words-replaced f (take headerBytes s) (wordsOfCell s) (cell-made s cell) es
     ∙ ap (λ (l : List ℕ). withReplaced (f .grid) l (doneAmong es (map (takes f) es))) (cell-remade s cell bytes)

@@ -9,7 +9,7 @@ use Rattle.octets.specs.Pastes.{pasted}
 use Rattle.octets.proofs.ChoiceLaws.{by-order}
 use Rattle.octets.proofs.PasteLaws.{length-paste}
 use Rattle.octets.proofs.PartLaws.{paste-shown, byte-part}
-use Rattle.headers.specs.Judged.{frameIn}
+use Rattle.headers.specs.Judged.{frameIn, factsIn}
 use Rattle.layout.specs.Levels.{columnBytes}
 use Rattle.posts.specs.Heights.{wordOf}
 use Rattle.columns.specs.Column.{wordAt, sumAt}
@@ -20,6 +20,7 @@ use Rattle.lookup.specs.Reach.{spotIn}
 use Rattle.lookup.specs.declared.reach.Spot.{Spot}
 use Rattle.answers.specs.declared.Outcome.{Outcome}
 use Rattle.answers.specs.declared.Outcome.the-variants.{Done, Refused}
+use Rattle.years.specs.declared.Year.{Year}
 use Rattle.edit.specs.Edit.{judgedEdit, storedIn, edited}
 use Rattle.edit.proofs.SpotReached.{SpotOf, partAt, spot-of}
 use Rattle.edit.proofs.EditExactly.{accepted-exactly, refused-leaves, done-leaves}
@@ -62,29 +63,29 @@ module _ (s : List ℕ) (c p : ℕ) (z : ℤ) (spot : Spot) (at : SpotOf s c p s
       (λ k l q. apart k l (omega arith)) (λ k l q. beyond k l (omega arith))
       ∙ byte-part s (spot .start) (columnBytes (spot .posts)) j (omega (arith, column-long)))
 
-module _ (s : List ℕ) (c p : ℕ) (z : ℤ) where
-  -- where the post's two bytes stand, and the checksum's four
-  abbrev pub postAt : ℕ
-  postAt = startOf (frameIn s .grid) c + wordAt p
+-- where a post's two bytes stand, and its column's checksum of four
+abbrev pub postAt : List ℕ → ℕ → ℕ → ℕ
+postAt s c p = startOf (factsIn s .grid) c + wordAt p
 
-  abbrev pub checksumAt : ℕ
-  checksumAt = startOf (frameIn s .grid) c + sumAt (frameIn s .grid .posts)
+abbrev pub checksumAt : List ℕ → ℕ → ℕ
+checksumAt s c = startOf (factsIn s .grid) c + sumAt (factsIn s .grid .posts)
 
+module _ (year : Year) (s : List ℕ) (c p : ℕ) (z : ℤ) where
   abbrev spot : Spot
-  spot = spotIn s (frameIn s) c p
+  spot = spotIn s (frameIn year s) c p
 
-  reached-spot : judgedEdit s c p z ≡ Done → SpotOf s c p spot
-  reached-spot e = spot-of s c p (accepted-exactly s c p z .0 e .0)
+  reached-spot : judgedEdit year s c p z ≡ Done → SpotOf s c p spot
+  reached-spot e = spot-of year s c p (accepted-exactly year s c p z .0 e .0)
 
-  by-answer : (x : Outcome) → judgedEdit s c p z ≡ x
-      → (length (edited s c p z) ≡ length s) × ((i : ℕ) → NoneOf postAt 2 i → NoneOf checksumAt 4 i → getD (edited s c p z) i 0 ≡ getD s i 0)
+  by-answer : (x : Outcome) → judgedEdit year s c p z ≡ x
+      → (length (edited year s c p z) ≡ length s) × ((i : ℕ) → NoneOf (postAt s c p) 2 i → NoneOf (checksumAt s c) 4 i → getD (edited year s c p z) i 0 ≡ getD s i 0)
   by-answer Done e =
       let at = reached-spot e in
-      rw (done-leaves s c p z e) (length-stored-in s c p z spot at, stored-in-leaves s c p z spot at)
-  by-answer (Refused r) e = rw (refused-leaves s c p z r e) (refl, λ i apart beyond. refl)
+      rw (done-leaves year s c p z e) (length-stored-in s c p z spot at, stored-in-leaves s c p z spot at)
+  by-answer (Refused r) e = rw (refused-leaves year s c p z r e) (refl, λ i apart beyond. refl)
 
-  pub same-length : length (edited s c p z) ≡ length s
-  same-length = by-answer (judgedEdit s c p z) refl .0
+  pub same-length : length (edited year s c p z) ≡ length s
+  same-length = by-answer (judgedEdit year s c p z) refl .0
 
-  pub six-bytes : (i : ℕ) → NoneOf postAt 2 i → NoneOf checksumAt 4 i → getD (edited s c p z) i 0 ≡ getD s i 0
-  six-bytes = by-answer (judgedEdit s c p z) refl .1
+  pub six-bytes : (i : ℕ) → NoneOf (postAt s c p) 2 i → NoneOf (checksumAt s c) 4 i → getD (edited year s c p z) i 0 ≡ getD s i 0
+  six-bytes = by-answer (judgedEdit year s c p z) refl .1

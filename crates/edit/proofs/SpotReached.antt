@@ -8,6 +8,7 @@ use lib.ListN.{length, take, drop}
 use borrow.Rule.Slice.PartMut.{putMid}
 use Rattle.octets.specs.Pastes.{pasted}
 use Rattle.octets.proofs.PasteLaws.{part-back}
+use Rattle.years.specs.declared.Year.{Year}
 use Rattle.layout.specs.Levels.{columnBytes}
 use Rattle.headers.specs.Judged.{factsIn, frameIn}
 use Rattle.headers.proofs.Exactly.{follows-good}
@@ -39,11 +40,11 @@ pub record SpotOf (s : List ℕ) (c p : ℕ) (spot : Spot) : Type 0 where
   pub whole : spot .start + columnBytes (spot .posts) ≤ length s
   pub column : GoodColumn (partAt s spot) c (spot .posts) (spot .voids)
 
-module _ (s : List ℕ) (c p : ℕ) where
+module _ (year : Year) (s : List ℕ) (c p : ℕ) where
   -- the spot of a good column
-  pub spot-of : Reachable s c p → SpotOf s c p (spotIn s (frameIn s) c p)
+  pub spot-of : Reachable year s c p → SpotOf s c p (spotIn s (frameIn year s) c p)
   spot-of r =
-      let g = frameIn s .grid in
+      let g = factsIn s .grid in
       let on = r .on in
       let ranged = good-facts s (factsIn s) (follows-good s (on .headers)) .grid in
       record {
@@ -51,19 +52,19 @@ module _ (s : List ℕ) (c p : ℕ) where
         few = ranged .posts-high;
         small = omega (arith, start-small c (g .bytes .column) (omega arith) (omega arith));
         whole = omega (arith, r .whole);
-        column = subst (λ (n : ℕ). GoodColumn (take n (drop (startOf g c) s)) c (g .posts) (frameIn s .voids)) (ranged .column) (r .column);
+        column = subst (λ (n : ℕ). GoodColumn (take n (drop (startOf g c) s)) c (g .posts) (frameIn year s .voids)) (ranged .column) (r .column);
       }
 
-  by-row : (x : Reached) → Row s c p x → (spot : Spot) → x ≡ At spot → SpotOf s c p spot
+  by-row : (x : Reached) → Row year s c p x → (spot : Spot) → x ≡ At spot → SpotOf s c p spot
   by-row _ (bad-headers r j) spot e = let z : _≡_ {A = ℕ} 0 1 = cc in absurd (omega arith)
   by-row _ (off h away) spot e = let z : _≡_ {A = ℕ} 0 1 = cc in absurd (omega arith)
   by-row _ (cut o short) spot e = let z : _≡_ {A = ℕ} 0 1 = cc in absurd (omega arith)
   by-row _ (column o whole r j) spot e = let z : _≡_ {A = ℕ} 0 1 = cc in absurd (omega arith)
   by-row _ (good o whole g) spot e =
-      let same : spotIn s (frameIn s) c p ≡ spot = cc in subst (SpotOf s c p) same (spot-of (record { on = o; whole = whole; column = g }))
+      let same : spotIn s (frameIn year s) c p ≡ spot = cc in subst (SpotOf s c p) same (spot-of (record { on = o; whole = whole; column = g }))
 
-  pub spot-reached : (spot : Spot) → reached s c p ≡ At spot → SpotOf s c p spot
-  spot-reached spot e = by-row (reached s c p) (row s c p) spot e
+  pub spot-reached : (spot : Spot) → reached year s c p ≡ At spot → SpotOf s c p spot
+  spot-reached spot e = by-row (reached year s c p) (row year s c p) spot e
 
 -- the column, lent as the part from its start to its end
 module _ (s : List ℕ) (c p : ℕ) (spot : Spot) (at : SpotOf s c p spot) (size : ℕ) (sized : size ≡ columnBytes (spot .posts)) where

@@ -1,4 +1,4 @@
--- The edit of one post (rules E1 to E3): what a lookup judges in its order, then 11.
+-- The edit of one post under a year (rules E1 to E3): what a lookup judges in its order, then 11.
 use Prim.Native.Nat.{ℕ}
 use mathlib.Core.List.{List}
 use lib.IntN.{ℤ}
@@ -9,6 +9,7 @@ use Rattle.answers.specs.Told.{Told, told, act}
 use Rattle.answers.specs.declared.Refusal.the-variants.{Height}
 use Rattle.answers.specs.declared.Outcome.{Outcome}
 use Rattle.answers.specs.declared.Outcome.the-variants.{Done, Refused}
+use Rattle.years.specs.declared.Year.{Year}
 use Rattle.layout.specs.Levels.{columnBytes}
 use Rattle.layout.specs.declared.Frame.{Frame}
 use Rattle.posts.specs.Heights.{heightAllowed, wordOf}
@@ -24,8 +25,8 @@ judgedAt (reach.At spot) z = pick (heightAllowed (spot .voids) z) Done (Refused 
 judgedAt (reach.Refused r) z = Refused r
 
 -- E1: the order of the call
-unfoldable pub judgedEdit : List ℕ → ℕ → ℕ → ℤ → Outcome
-judgedEdit s c p z = judgedAt (reached s c p) z
+unfoldable pub judgedEdit : Year → List ℕ → ℕ → ℕ → ℤ → Outcome
+judgedEdit year s c p z = judgedAt (reached year s c p) z
 
 -- E2: post p of the spot's column stored anew, in that column's part of the cell
 unfoldable pub storedIn : List ℕ → Spot → ℕ → ℤ → List ℕ
@@ -43,8 +44,8 @@ abbrev pub editedIn : List ℕ → Frame → ℕ → ℕ → ℤ → List ℕ
 editedIn s f c p z = editedAt (reachedIn s f c p) s p z
 
 -- what is told of the call, and the bytes at its end
-unfoldable pub editTold : List ℕ → ℕ → ℕ → ℤ → Told
-editTold s c p z = told act (judgedEdit s c p z)
+unfoldable pub editTold : Year → List ℕ → ℕ → ℕ → ℤ → Told
+editTold year s c p z = told act (judgedEdit year s c p z)
 
-unfoldable pub edited : List ℕ → ℕ → ℕ → ℤ → List ℕ
-edited s c p z = editedAt (reached s c p) s p z
+unfoldable pub edited : Year → List ℕ → ℕ → ℕ → ℤ → List ℕ
+edited year s c p z = editedAt (reached year s c p) s p z

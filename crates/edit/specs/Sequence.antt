@@ -6,6 +6,7 @@ use lib.Dec.{ltb}
 use lib.IntN.{ℤ}
 use lib.ListN.{set}
 use Rattle.octets.specs.Choice.{pick, both}
+use Rattle.years.specs.declared.Year.{Year}
 use Rattle.layout.specs.declared.Frame.{Frame}
 use Rattle.posts.specs.Heights.{heightAllowed, wordOf}
 use Rattle.edit.specs.Edit.{edited}
@@ -19,10 +20,10 @@ pub record Call : Type 0 where
 abbrev pub takes : Frame → Call → Bool
 takes f e = both (ltb (e .column) (f .grid .columns)) (both (ltb (e .post) (f .grid .posts)) (heightAllowed (f .voids) (e .height)))
 
--- the bytes, call after call
-unfoldable pub afterEdits : List ℕ → List Call → List ℕ
-afterEdits s [] = s
-afterEdits s (e ∷ es) = afterEdits (edited s (e .column) (e .post) (e .height)) es
+-- the bytes, call after call, all under one year
+unfoldable pub afterEdits : Year → List ℕ → List Call → List ℕ
+afterEdits year s [] = s
+afterEdits year s (e ∷ es) = afterEdits year (edited year s (e .column) (e .post) (e .height)) es
 
 -- the words, with the post's word replaced where the call takes, else as they were
 abbrev pub wordsWith : Frame → List ℕ → Call → List ℕ

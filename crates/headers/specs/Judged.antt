@@ -5,11 +5,13 @@ use mathlib.Core.Bool.{Bool, true, not}
 use mathlib.Core.List.{List, [], _∷_}
 use lib.ListN.{length}
 use lib.Dec.{eqb, ltb}
-use Rattle.octets.specs.Choice.{pick}
+use Rattle.octets.specs.Choice.{pick, both}
 use Rattle.octets.specs.Digits.{decimalAt}
 use Rattle.octets.specs.Numbers.{Bytes}
 use Rattle.answers.specs.declared.Refusal.{Refusal}
 use Rattle.answers.specs.declared.Refusal.the-variants as because
+use Rattle.years.specs.declared.Year.{Year}
+use Rattle.years.specs.declared.Year.the-variants.{One, Two}
 use Rattle.layout.specs.Grid.{headerBytes}
 use Rattle.layout.specs.declared.Frame.{Frame}
 use Rattle.fields.specs.Table.{fields, bytesIn, fieldAt, placeOf}
@@ -63,13 +65,18 @@ pub record Stands (f : Field) (v : List ℕ) : Type 0 where
 abbrev pub Impossible : Field → List ℕ → Type 0
 Impossible f v = Stands f v → ⊥
 
--- V1: a cell may hold voids exactly where its headers call it partial
-abbrev pub voidsAllowed : Facts → Bool
-voidsAllowed facts = not (eqb (facts .partial) 0)
+-- H34: the headers call the cell partial
+abbrev pub isPartial : Facts → Bool
+isPartial facts = not (eqb (facts .partial) 0)
 
--- the frame that headers give: what columns, lookups, edits and writers know of them
-abbrev pub frameOf : Facts → Frame
-frameOf facts = record { grid = facts .grid; voids = voidsAllowed facts }
+-- V1: where a cell may hold voids, by the rules of a year
+abbrev pub voidsAllowed : Year → Facts → Bool
+voidsAllowed One facts = isPartial facts
+voidsAllowed Two facts = both (isPartial facts) (eqb (facts .grid .level) 2)
 
-abbrev pub frameIn : List ℕ → Frame
-frameIn s = frameOf (factsIn s)
+-- the frame that headers give under a year: what columns, lookups, edits and writers know of both
+abbrev pub frameOf : Year → Facts → Frame
+frameOf year facts = record { grid = facts .grid; voids = voidsAllowed year facts }
+
+abbrev pub frameIn : Year → List ℕ → Frame
+frameIn year s = frameOf year (factsIn s)

@@ -20,8 +20,10 @@ use fields::FIELDS;
 use layout::Frame;
 use layout::HEADER_BYTES;
 use layout::zones::near_edge;
+use octets::choices::both;
 use octets::digits::decimal;
 use rules::kinds::keeps;
+use years::Year;
 
 // Level and origin stand in the first rows, in which nothing is due by them.
 const FIRST: usize = 4;
@@ -97,13 +99,24 @@ pub fn judge(s: &[u8]) -> JudgedHeaders
     })
 }
 
-// The frame of a cell with these headers: whether it may hold voids is decided here alone.
-pub fn frame_of(facts: Facts) -> Frame
-    ensures { λ r. ⌜ r ≡ by.frameOf facts ⌝ }
+// Whether a cell with these headers may hold voids under a year: decided here alone.
+fn may_hold_voids(year: Year, facts: Facts) -> bool
+    ensures { λ r. ⌜ r ≡ by.voidsAllowed year facts ⌝ }
+{
+    let grid = facts.grid;
+    match year {
+        Year::One => facts.partial != 0,
+        Year::Two => both(facts.partial != 0, grid.level == 2),
+    }
+}
+
+// The frame of a cell with these headers, under a year.
+pub fn frame_of(year: Year, facts: Facts) -> Frame
+    ensures { λ r. ⌜ r ≡ by.frameOf year facts ⌝ }
 {
     let grid = facts.grid;
     Frame {
         grid,
-        voids: facts.partial != 0,
+        voids: may_hold_voids(year, facts),
     }
 }

@@ -8,9 +8,11 @@ use lib.IntN.{ℤ}
 use lib.ListN.{length}
 use Rattle.answers.specs.Told.{told, act}
 use Rattle.answers.specs.declared.Outcome.{Outcome}
+use Rattle.years.specs.declared.Year.{Year}
 use Rattle.layout.specs.Levels.{postsOf, columnBytes}
 use Rattle.description.specs.Items.{badItem}
 use Rattle.description.specs.declared.Description.{Description}
+use Rattle.description.specs.Facts.{factsFor}
 use Rattle.columns.specs.Column.{columnOf}
 use Rattle.column_writer.specs.Judged.{outputAfter}
 use Rattle.cell_writer.specs.Cell.{postsDue, frameFor, judgedUnder, judgedCellWrite, cellOf, cellTold, cellOutput}
@@ -27,12 +29,12 @@ use Rattle.host_items.proofs.TestsAlike.{items-alike}
 use Rattle.host_writers.proofs.BytesExactly as cell
 
 -- items in range, and bytes of the length due; for a column the length is enough
-pub cell-same : (items : List ℤ) (grid out : List ℕ) → badNumber items ≡ 0 → length grid ≡ 2 * postsDue (frameFor (descriptionOf items) .grid)
-    → (bytesTold items grid out ≡ cellTold (descriptionOf items) (heightsInBytes grid) out)
-    × (bytesOutput items grid out ≡ cellOutput (descriptionOf items) (heightsInBytes grid) out)
+pub cell-same : (year : Year) (items : List ℤ) (grid out : List ℕ) → badNumber items ≡ 0 → length grid ≡ 2 * postsDue (factsFor (descriptionOf items) .grid)
+    → (bytesTold year items grid out ≡ cellTold year (descriptionOf items) (heightsInBytes grid) out)
+    × (bytesOutput year items grid out ≡ cellOutput year (descriptionOf items) (heightsInBytes grid) out)
 unfolding bytesTold bytesOutput cellTold cellOutput
-cell-same items grid out e h =
-    let same = cell.even-agrees items grid (length out) e h in
+cell-same year items grid out e h =
+    let same = cell.even-agrees year items grid (length out) e h in
     (ap (told act) same, ap (λ (x : Outcome). outputAfter x (cellOf (descriptionOf items) (heightsInBytes grid)) out) same)
 
 pub column-same : (level number : ℕ) (posts out : List ℕ) → length posts ≡ 2 * postsOf level
@@ -44,23 +46,23 @@ column-same level number posts out e =
     (ap (told act) same, ap (λ (x : Outcome). outputAfter x (columnOf number (heightsInBytes posts)) out) same)
 
 -- a description with an item out of range: both name the same item, whatever else is given
-pub same-item : (d : Description) → (badItem d ≡ 0 → ⊥) → (zs : List ℤ) (grid out : List ℕ)
-    → (bytesTold (numbersOf d) grid out ≡ cellTold d zs out) × (bytesOutput (numbersOf d) grid out ≡ cellOutput d zs out)
+pub same-item : (year : Year) (d : Description) → (badItem d ≡ 0 → ⊥) → (zs : List ℤ) (grid out : List ℕ)
+    → (bytesTold year (numbersOf d) grid out ≡ cellTold year d zs out) × (bytesOutput year (numbersOf d) grid out ≡ cellOutput year d zs out)
 unfolding bytesTold bytesOutput cellTold cellOutput judgedBytes judgedCellWrite
-same-item d bad zs grid out =
-    let ours = found-bad (badItem d) (badNumber (numbersOf d)) (cell.judgedThen (numbersOf d) grid (length out)) (sym (items-alike d)) bad in
-    let theirs = found-bad (badItem d) (badItem d) (judgedUnder (frameFor d) (numbers zs) (length out)) refl bad in
+same-item year d bad zs grid out =
+    let ours = found-bad (badItem d) (badNumber (numbersOf d)) (cell.judgedThen year (numbersOf d) grid (length out)) (sym (items-alike d)) bad in
+    let theirs = found-bad (badItem d) (badItem d) (judgedUnder (frameFor year d) (numbers zs) (length out)) refl bad in
     (ap (told act) (sym ours ∙ theirs), rw (sym ours, sym theirs))
 
 -- so a host can have any description written with any heights of 16 bits, and is answered as the writer over heights answers
-any-by : (d : Description) (zs : List ℤ) → length zs ≡ postsDue (frameFor d .grid) → Words zs → (out : List ℕ) (n : ℕ) → badItem d ≡ n
-    → (bytesTold (numbersOf d) (bytesFor zs) out ≡ cellTold d zs out) × (bytesOutput (numbersOf d) (bytesFor zs) out ≡ cellOutput d zs out)
-any-by d zs h w out zero e =
+any-by : (year : Year) (d : Description) (zs : List ℤ) → length zs ≡ postsDue (factsFor d .grid) → Words zs → (out : List ℕ) (n : ℕ) → badItem d ≡ n
+    → (bytesTold year (numbersOf d) (bytesFor zs) out ≡ cellTold year d zs out) × (bytesOutput year (numbersOf d) (bytesFor zs) out ≡ cellOutput year d zs out)
+any-by year d zs h w out zero e =
     let long = length-bytes-for zs in
     rw (numbers-back d, heights-back zs w) at
-    (cell-same (numbersOf d) (bytesFor zs) out (items-alike d ∙ e) (rw (numbers-back d) (omega arith)))
-any-by d zs h w out (suc n) e = same-item d (λ q. omega (arith, e, q)) zs (bytesFor zs) out
+    (cell-same year (numbersOf d) (bytesFor zs) out (items-alike d ∙ e) (rw (numbers-back d) (omega arith)))
+any-by year d zs h w out (suc n) e = same-item year d (λ q. omega (arith, e, q)) zs (bytesFor zs) out
 
-pub any-cell : (d : Description) (zs : List ℤ) → length zs ≡ postsDue (frameFor d .grid) → Words zs → (out : List ℕ)
-    → (bytesTold (numbersOf d) (bytesFor zs) out ≡ cellTold d zs out) × (bytesOutput (numbersOf d) (bytesFor zs) out ≡ cellOutput d zs out)
-any-cell d zs h w out = any-by d zs h w out (badItem d) refl
+pub any-cell : (year : Year) (d : Description) (zs : List ℤ) → length zs ≡ postsDue (factsFor d .grid) → Words zs → (out : List ℕ)
+    → (bytesTold year (numbersOf d) (bytesFor zs) out ≡ cellTold year d zs out) × (bytesOutput year (numbersOf d) (bytesFor zs) out ≡ cellOutput year d zs out)
+any-cell year d zs h w out = any-by year d zs h w out (badItem d) refl

@@ -5,3 +5,4 @@ pub mod CellExactly
 pub mod IntakeExactly
 pub mod NeverMore
 pub mod OneByte
+pub mod BothYears

@@ -10,6 +10,7 @@ use Rattle.octets.proofs.PartLaws.{byte-part, paste-before}
 use Rattle.octets.proofs.PasteLaws.{store}
 use Rattle.answers.specs.Told.{Told, refused, numberTold, placeTold}
 use Rattle.answers.proofs.Injective.{refusal-told}
+use Rattle.years.specs.declared.Year.{Year}
 use Rattle.layout.specs.Grid.{headerBytes}
 use Rattle.layout.specs.declared.Frame.{Frame}
 use Rattle.layout.specs.Ranges.{Ranged}
@@ -76,12 +77,12 @@ module _ (s : List ℕ) (f : Frame) (in-range : Ranged (f .grid)) (framed : Fram
       (refused-at (startOf g k) (endOf f k) (judgedAt changed f k) _ inside)
 
 -- byte j lies in column k and is replaced by v
-pub one-byte-refused : (s : List ℕ) → Cell s → (k j v : ℕ) → k < frameIn s .grid .columns
-    → startOf (frameIn s .grid) k ≤ j → j < startOf (frameIn s .grid) k + frameIn s .grid .bytes .column → (v ≡ getD s j 0 → ⊥)
-    → RefusedAt (startOf (frameIn s .grid) k) (startOf (frameIn s .grid) k + frameIn s .grid .bytes .column) (taken (set s j v))
+pub one-byte-refused : (year : Year) (s : List ℕ) → Cell year s → (k j v : ℕ) → k < factsIn s .grid .columns
+    → startOf (factsIn s .grid) k ≤ j → j < startOf (factsIn s .grid) k + factsIn s .grid .bytes .column → (v ≡ getD s j 0 → ⊥)
+    → RefusedAt (startOf (factsIn s .grid) k) (startOf (factsIn s .grid) k + factsIn s .grid .bytes .column) (taken year (set s j v))
 unfolding taken
-one-byte-refused s cell k j v h low high other =
-    let f = frameIn s in
+one-byte-refused year s cell k j v h low high other =
+    let f = frameIn year s in
     let start = startOf (f .grid) k in
     let at-j : start + (j - start) ≡ j = omega arith in
     let enough : headerBytes ≤ length s = cell .headers .0 in

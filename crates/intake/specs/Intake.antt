@@ -1,4 +1,4 @@
--- Intake (rules I1 to I3): 1, 21 to 23, then column after column from the west 3, 4, 5, 6, then 7.
+-- Intake (rules I1 to I3) under a year: 1, 21 to 23, then column after column from the west 3, 4, 5, 6, then 7.
 use Prim.Native.Nat.{ℕ, _+_}
 use mathlib.Core.List.{List}
 use lib.ListN.{length}
@@ -6,6 +6,7 @@ use lib.Dec.{eqb, leb}
 use Rattle.octets.specs.Choice.{pick}
 use Rattle.octets.specs.Scan.{scan}
 use Rattle.answers.specs.Told.{Told, refused, accepted, numbered}
+use Rattle.years.specs.declared.Year.{Year}
 use Rattle.layout.specs.declared.Grid.{Grid}
 use Rattle.layout.specs.declared.Frame.{Frame}
 use Rattle.headers.specs.Judged.{judged, frameOf}
@@ -37,9 +38,10 @@ abbrev pub columnsFrom : List ℕ → Frame → ℕ → ℕ → Told
 columnsFrom s f k n = scan (judgeNext s f) (ended (length s) (f .grid)) k n
 
 -- I1: the headers first
-abbrev pub takenBy : List ℕ → JudgedHeaders → Told
-takenBy s (headers.Good f) = columnsFrom s (frameOf f) 0 (f .grid .columns)
-takenBy s (headers.Refused r) = numbered r
+abbrev pub takenBy : Year → List ℕ → JudgedHeaders → Told
+takenBy year s (headers.Good f) = columnsFrom s (frameOf year f) 0 (f .grid .columns)
+takenBy year s (headers.Refused r) = numbered r
 
-unfoldable pub taken : List ℕ → Told
-taken s = takenBy s (judged s)
+-- under a year
+unfoldable pub taken : Year → List ℕ → Told
+taken year s = takenBy year s (judged s)

@@ -1,6 +1,7 @@
 // Intake of a whole cell from any bytes: the headers, then column after column from the west.
 ghost use mathlib.Core.Path.{_≡_};
 ghost use Rattle.answers.specs.Told as told;
+ghost use Rattle.years.specs.Years.{under};
 ghost use Rattle.intake.specs.Asked.{ColumnsAsked};
 ghost use Rattle.intake.specs.Intake.{columnsFrom, ended, taken};
 use answers::Refusal;
@@ -14,6 +15,9 @@ use layout::Grid;
 use layout::HEADER_BYTES;
 use octets::numbers::be16;
 use posts::words::is_allowed;
+use years::Named;
+use years::Year;
+use years::year_of;
 
 // What is answered after the last column, of so many bytes.
 pub fn end(long: usize, grid: Grid) -> Verdict
@@ -71,13 +75,23 @@ fn take_columns(cell: &[u8], frame: Frame) -> Verdict
     found
 }
 
-// Accepted with level, columns and posts, or refused with the first fault; any bytes.
-pub fn intake(cell: &[u8]) -> Verdict
-    ensures { λ r. ⌜ told.told told.intake r ≡ taken (now (cell .entry)) ⌝ }
+// Intake by the rules of a year.
+fn intake_under(year: Year, cell: &[u8]) -> Verdict
+    ensures { λ r. ⌜ told.told told.intake r ≡ taken year (now (cell .entry)) ⌝ }
 {
     let judged = headers::judge::judge(cell);
     match judged {
-        headers::JudgedHeaders::Good(facts) => take_columns(cell, frame_of(facts)),
+        headers::JudgedHeaders::Good(facts) => take_columns(cell, frame_of(year, facts)),
         headers::JudgedHeaders::Refused(refusal) => Verdict::Refused(refusal),
+    }
+}
+
+// Accepted with level, columns and posts, or refused with the first fault; any number for the rule year, and any bytes.
+pub fn intake(named: u32, cell: &[u8]) -> Verdict
+    ensures { λ r. ⌜ told.told told.intake r ≡ under named (λ year. taken year (now (cell .entry))) ⌝ }
+{
+    match year_of(named) {
+        Named::Rule(year) => intake_under(year, cell),
+        Named::Unknown => Verdict::Refused(Refusal::Year(named as usize)),
     }
 }

@@ -16,12 +16,16 @@ use Rattle.intake_program.specs.declared.Filled.the-variants.{Bytes, Fai
 use Rattle.intake_program.specs.declared.Found.{Found}
 use Rattle.intake_program.specs.declared.Found.the-variants.{Answer, Unread}
 
--- S5, S7: never "more", and what the step says of a piece, no longer than due, in a state that "more" led to from a new one
+-- S7: the year that the program names
+abbrev pub yearNamed : ℕ
+yearNamed = 2
+
+-- S5, S7: never "more", and what the step says of a piece, no longer than due, in a state that "more" led to from a new one with that year
 pub record Last (answer : Verdict) : Type 0 where
   pub final : isFinal answer ≡ true
   pub phase : Phase
   pub piece : List ℕ
-  pub going : Going phase
+  pub going : Going yearNamed phase
   pub said : told intake answer ≡ saidOf phase piece
   pub within : length piece ≤ wanted phase
 

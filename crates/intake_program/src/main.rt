@@ -1,4 +1,4 @@
-// Judges the cell on standard input and prints one line: `accepted LEVEL COLUMNS POSTS` or `refused NO PLACE`.
+// Judges the cell on standard input by the rules of year 2 and prints one line: `accepted LEVEL COLUMNS POSTS` or `refused NO PLACE`.
 // It only feeds stepwise intake, a column at a time through one buffer; everything that is decided is decided there.
 // Given any argument it judges nothing: a line about standard input would be taken for one about a file that was named.
 ghost use mathlib.Core.Path.{_≡_};
@@ -14,6 +14,9 @@ const INPUT: i32 = 0;
 const OUTPUT: i32 = 1;
 
 const ERRORS: i32 = 2;
+
+// The rule year that it judges by.
+const YEAR: u32 = 2;
 
 // The longest column of any level.
 const BUFFER: usize = 7214;
@@ -70,7 +73,7 @@ fn take_input() -> Found
     ensures { λ r. ⌜ Settled r ⌝ }
 {
     let mut buffer = [0u8; BUFFER];
-    let mut steps = Steps::new();
+    let mut steps = Steps::new(YEAR);
     loop {
         let filled = fill(&mut buffer, steps.wanted());
         match filled {

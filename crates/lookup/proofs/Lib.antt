@@ -3,3 +3,4 @@ pub mod PostReached
 pub mod ReachedExactly
 pub mod PostSaid
 pub mod LookupLaws
+pub mod BothYears

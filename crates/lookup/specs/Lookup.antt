@@ -6,6 +6,7 @@ use Rattle.octets.specs.Choice.{pick}
 use Rattle.answers.specs.Told.{Told, told, post, height, void}
 use Rattle.answers.specs.declared.Reading.{Reading}
 use Rattle.answers.specs.declared.Reading.the-variants as reading
+use Rattle.years.specs.declared.Year.{Year}
 use Rattle.posts.specs.Words.{postOf}
 use Rattle.posts.specs.Heights.{isVoid}
 use Rattle.posts.specs.declared.Post.{Post}
@@ -28,5 +29,5 @@ readingOf (Refused r) = reading.Refused r
 abbrev pub heightSaid : ℤ → Told
 heightSaid z = pick (isVoid z) void (height z)
 
-unfoldable pub lookedUp : List ℕ → ℕ → ℕ → Told
-lookedUp s c p = told post (readingOf (reached s c p))
+unfoldable pub lookedUp : Year → List ℕ → ℕ → ℕ → Told
+lookedUp year s c p = told post (readingOf (reached year s c p))

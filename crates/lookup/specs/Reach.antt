@@ -1,10 +1,11 @@
--- Reaching one post (rule L1): 1, 21 to 23, 8, then 3, 4, 5, 6 for its column alone. Lookup and edit both begin so.
+-- Reaching one post under a year (rule L1): 1, 21 to 23, 8, then 3, 4, 5, 6 for its column alone. Lookup and edit both begin so.
 use Prim.Native.Nat.{ℕ, _+_}
 use mathlib.Core.List.{List}
 use lib.ListN.{length}
 use lib.Dec.{leb, ltb}
 use Rattle.octets.specs.Choice.{pick, both}
 use Rattle.answers.specs.declared.Refusal.the-variants.{Cut, OffGrid}
+use Rattle.years.specs.declared.Year.{Year}
 use Rattle.layout.specs.declared.Frame.{Frame}
 use Rattle.headers.specs.Judged.{judged, frameOf}
 use Rattle.headers.specs.declared.JudgedHeaders.{JudgedHeaders}
@@ -42,9 +43,9 @@ reachedIn s f c p =
     (Refused OffGrid)
 
 -- N1, N21 to N23: the headers first
-abbrev pub reachedUnder : List ℕ → JudgedHeaders → ℕ → ℕ → Reached
-reachedUnder s (headers.Good f) c p = reachedIn s (frameOf f) c p
-reachedUnder s (headers.Refused r) c p = Refused r
+abbrev pub reachedUnder : Year → List ℕ → JudgedHeaders → ℕ → ℕ → Reached
+reachedUnder year s (headers.Good f) c p = reachedIn s (frameOf year f) c p
+reachedUnder year s (headers.Refused r) c p = Refused r
 
-unfoldable pub reached : List ℕ → ℕ → ℕ → Reached
-reached s c p = reachedUnder s (judged s) c p
+unfoldable pub reached : Year → List ℕ → ℕ → ℕ → Reached
+reached year s c p = reachedUnder year s (judged s) c p

@@ -1,6 +1,7 @@
 // Lookup of one post by its column and number.
 ghost use mathlib.Core.Path.{_≡_};
 ghost use Rattle.answers.specs.Told as told;
+ghost use Rattle.years.specs.Years.{under};
 ghost use Rattle.lookup.specs.Lookup.{readingOf, lookedUp};
 
 pub mod reach;
@@ -8,8 +9,11 @@ pub mod reach;
 use crate::reach::Reached;
 use crate::reach::reach;
 use answers::Reading;
+use answers::Refusal;
 use posts::Post;
 use posts::words::post_of;
+use years::Named;
+use years::year_of;
 
 // What a reached post reads as.
 pub fn read(reached: Reached) -> Reading
@@ -27,10 +31,15 @@ pub fn read(reached: Reached) -> Reading
     }
 }
 
-// The height or void of a post, 0 being the southern one of its column; any bytes and any numbers.
-pub fn look_up(cell: &[u8], column: usize, post: usize) -> Reading
-    ensures { λ r. ⌜ told.told told.post r ≡ lookedUp (now (cell .entry)) column post ⌝ }
+// The height or void of a post, 0 being the southern one of its column; any number for the rule year, any bytes and any numbers.
+pub fn look_up(named: u32, cell: &[u8], column: usize, post: usize) -> Reading
+    ensures { λ r. ⌜ told.told told.post r ≡ under named (λ year. lookedUp year (now (cell .entry)) column post) ⌝ }
 {
-    let reached = reach(cell, column, post);
-    read(reached)
+    match year_of(named) {
+        Named::Rule(year) => {
+            let reached = reach(year, cell, column, post);
+            read(reached)
+        }
+        Named::Unknown => Reading::Refused(Refusal::Year(named as usize)),
+    }
 }

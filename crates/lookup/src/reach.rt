@@ -9,6 +9,7 @@ use headers::judge::frame_of;
 use layout::Frame;
 use layout::HEADER_BYTES;
 use octets::numbers::be16;
+use years::Year;
 
 // A post of a good column: where the column starts, how many posts it has, whether it may hold voids, and the post's word.
 pub struct Spot {
@@ -57,13 +58,13 @@ pub fn reach_in(cell: &[u8], frame: Frame, column: usize, post: usize) -> Reache
     }
 }
 
-// A post of any bytes; any numbers.
-pub fn reach(cell: &[u8], column: usize, post: usize) -> Reached
-    ensures { λ r. ⌜ r ≡ by.reached (now (cell .entry)) column post ⌝ }
+// A post of any bytes, by the rules of a year; any numbers.
+pub fn reach(year: Year, cell: &[u8], column: usize, post: usize) -> Reached
+    ensures { λ r. ⌜ r ≡ by.reached year (now (cell .entry)) column post ⌝ }
 {
     let judged = headers::judge::judge(cell);
     match judged {
-        headers::JudgedHeaders::Good(facts) => reach_in(cell, frame_of(facts), column, post),
+        headers::JudgedHeaders::Good(facts) => reach_in(cell, frame_of(year, facts), column, post),
         headers::JudgedHeaders::Refused(refusal) => Reached::Refused(refusal),
     }
 }

@@ -3,3 +3,4 @@ pub mod Positions
 pub mod NearestPost
 pub mod Offsets
 pub mod PositionExactly
+pub mod BothYears

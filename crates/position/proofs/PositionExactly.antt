@@ -7,6 +7,7 @@ use mathlib.Core.List.{List}
 use lib.IntN.{ℤ, subℕ}
 use Rattle.answers.specs.Told.{Told, numbered, refused}
 use Rattle.answers.specs.declared.Refusal.{Refusal}
+use Rattle.years.specs.declared.Year.{Year}
 use Rattle.headers.specs.Judged.{judged, factsIn, frameOf, Follows}
 use Rattle.headers.specs.declared.Facts.{Facts}
 use Rattle.headers.specs.declared.JudgedHeaders.{JudgedHeaders}
@@ -34,30 +35,30 @@ abbrev pub eastOf : Facts → ℤ → Along
 eastOf f longitude = inCell (f .longitude) (alongAxis (180 * degree) longitude)
 
 -- the rows in the call's order, each where it holds and none before it does; the last is post lookup's rows for the nearest post
-pub data Row (s : List ℕ) (latitude longitude : ℤ) : Told → Type 0 where
+pub data Row (year : Year) (s : List ℕ) (latitude longitude : ℤ) : Told → Type 0 where
   -- 1, 21 to 23
-  bad-headers : (r : Refusal) → judged s ≡ Refused r → Row s latitude longitude (numbered r)
+  bad-headers : (r : Refusal) → judged s ≡ Refused r → Row year s latitude longitude (numbered r)
   -- 8
-  off : (f : Facts) → judged s ≡ Good f → southWest f latitude longitude ≡ within.Off → Row s latitude longitude (refused 8 0)
+  off : (f : Facts) → judged s ≡ Good f → southWest f latitude longitude ≡ within.Off → Row year s latitude longitude (refused 8 0)
   near : (f : Facts) → judged s ≡ Good f → (k : Corner) → southWest f latitude longitude ≡ within.In k
-      → Row s latitude longitude (readAt (nearestColumn (f .grid) k) (nearestPost (f .grid) k) (reached s (nearestColumn (f .grid) k) (nearestPost (f .grid) k)))
+      → Row year s latitude longitude (readAt (nearestColumn (f .grid) k) (nearestPost (f .grid) k) (reached year s (nearestColumn (f .grid) k) (nearestPost (f .grid) k)))
 
-module _ (s : List ℕ) (latitude longitude : ℤ) where
-  located-good : (f : Facts) → judged s ≡ Good f → located s latitude longitude ≡ locatedBy s (frameOf f) (southWest f latitude longitude)
+module _ (year : Year) (s : List ℕ) (latitude longitude : ℤ) where
+  located-good : (f : Facts) → judged s ≡ Good f → located year s latitude longitude ≡ locatedBy s (frameOf year f) (southWest f latitude longitude)
   unfolding located
   located-good f e = rw e
 
   -- every row's answer is given
-  pub given : (t : Told) → Row s latitude longitude t → located s latitude longitude ≡ t
+  pub given : (t : Told) → Row year s latitude longitude t → located year s latitude longitude ≡ t
   unfolding located
   given _ (bad-headers r e) = rw e
-  given _ (off f e q) = located-good f e ∙ ap (locatedBy s (frameOf f)) q
+  given _ (off f e q) = located-good f e ∙ ap (locatedBy s (frameOf year f)) q
   given _ (near f e k q) =
-      located-good f e ∙ ap (locatedBy s (frameOf f)) q
-      ∙ ap (readAt (nearestColumn (f .grid) k) (nearestPost (f .grid) k)) (sym (reached-good s _ _ f e))
+      located-good f e ∙ ap (locatedBy s (frameOf year f)) q
+      ∙ ap (readAt (nearestColumn (f .grid) k) (nearestPost (f .grid) k)) (sym (reached-good year s _ _ f e))
 
   abbrev Some : Type 0
-  Some = (t : Told) × Row s latitude longitude t
+  Some = (t : Told) × Row year s latitude longitude t
 
   by-corner : (f : Facts) → judged s ≡ Good f → (w : Within) → southWest f latitude longitude ≡ w → Some
   by-corner f e (within.In k) q = (_, near f e k q)
@@ -68,23 +69,23 @@ module _ (s : List ℕ) (latitude longitude : ℤ) where
   by-headers (Good f) e = by-corner f e (southWest f latitude longitude) refl
 
   -- and every answer is a row's
-  pub row : Row s latitude longitude (located s latitude longitude)
-  row = let y = by-headers (judged s) refl in subst (Row s latitude longitude) (sym (given (y .0) (y .1))) (y .1)
+  pub row : Row year s latitude longitude (located year s latitude longitude)
+  row = let y = by-headers (judged s) refl in subst (Row year s latitude longitude) (sym (given (y .0) (y .1))) (y .1)
 
   -- off the cell on either axis it is 8
-  pub off-cell : (f : Facts) → judged s ≡ Good f → northOf f latitude ≡ Off → located s latitude longitude ≡ refused 8 0
+  pub off-cell : (f : Facts) → judged s ≡ Good f → northOf f latitude ≡ Off → located year s latitude longitude ≡ refused 8 0
   unfolding southWest
   off-cell f e q = given _ (off f e (ap (λ (a : Along). cornerAt f a (eastOf f longitude)) q))
 
   pub off-cell-east : (f : Facts) → judged s ≡ Good f → (north : ℕ) → northOf f latitude ≡ On north → eastOf f longitude ≡ Off
-      → located s latitude longitude ≡ refused 8 0
+      → located year s latitude longitude ≡ refused 8 0
   unfolding southWest
   off-cell-east f e north q r =
       given _ (off f e (ap (λ (a : Along). cornerAt f a (eastOf f longitude)) q ∙ ap (cornerAt f (On north)) r))
 
   -- a position so far north and east of the corner is answered by this column and post, and no other is nearer
   pub record Nearest (f : Facts) (north east column post : ℕ) : Type 0 where
-    pub answered : located s latitude longitude ≡ readAt column post (reached s column post)
+    pub answered : located year s latitude longitude ≡ readAt column post (reached year s column post)
     pub on-columns : column < f .grid .columns
     pub on-posts : post < f .grid .posts
     pub by-column : (j : ℕ) → AsNear east (f .grid .interval .longitude) column j
@@ -120,9 +121,9 @@ own-offset degrees half d n k some high span on =
     ∙ within-degree degrees a some (omega arith) (omega (arith, up, span)) ∙ ap On (omega arith)
 
 -- at the position of a post that post is answered, at every level and in every zone
-pub at-post : (s : List ℕ) → Follows s → (c p : ℕ) → c < factsIn s .grid .columns → p < factsIn s .grid .posts
-    → located s (latitudeOf (factsIn s) p) (longitudeOf (factsIn s) c) ≡ readAt c p (reached s c p)
-at-post s h c p hc hp =
+pub at-post : (year : Year) (s : List ℕ) → Follows s → (c p : ℕ) → c < factsIn s .grid .columns → p < factsIn s .grid .posts
+    → located year s (latitudeOf (factsIn s) p) (longitudeOf (factsIn s) c) ≡ readAt c p (reached year s c p)
+at-post year s h c p hc hp =
     let f = factsIn s in
     let e = follows-good s h in
     let good = good-facts s f e in
@@ -131,6 +132,6 @@ at-post s h c p hc hp =
     let dx = f .grid .interval .longitude in
     let n = own-offset (f .latitude) (90 * degree) dy (f .grid .posts) p (omega (arith, good .latitude)) (omega (arith, good .latitude)) (g .latitude-spans) hp in
     let w = own-offset (f .longitude) (180 * degree) dx (f .grid .columns) c (good .longitude) (omega (arith, good .longitude)) (g .longitude-spans) hc in
-    let it = nearest-answered s (latitudeOf f p) (longitudeOf f c) f e (p * dy) (c * dx) n w in
+    let it = nearest-answered year s (latitudeOf f p) (longitudeOf f c) f e (p * dy) (c * dx) n w in
     it .answered
     ∙ rw (nearest-at dx c (omega (arith, g .longitude-low)), nearest-at dy p (omega (arith, g .latitude-low)))

@@ -7,6 +7,7 @@ use Rattle.octets.specs.Choice.{pick}
 use Rattle.answers.specs.Told.{Told, heightAt, voidAt, numbered, refused}
 use Rattle.answers.specs.declared.Reading.{Reading}
 use Rattle.answers.specs.declared.Reading.the-variants as reading
+use Rattle.years.specs.declared.Year.{Year}
 use Rattle.layout.specs.Levels.{degree}
 use Rattle.layout.specs.declared.Grid.{Grid}
 use Rattle.layout.specs.declared.Frame.{Frame}
@@ -89,9 +90,9 @@ locatedBy s f (within.In k) =
 locatedBy s f within.Off = refused 8 0
 
 -- N1, N21 to N23: the headers first
-abbrev pub locatedUnder : List ℕ → JudgedHeaders → ℤ → ℤ → Told
-locatedUnder s (headers.Good f) latitude longitude = locatedBy s (frameOf f) (southWest f latitude longitude)
-locatedUnder s (headers.Refused r) latitude longitude = numbered r
+abbrev pub locatedUnder : Year → List ℕ → JudgedHeaders → ℤ → ℤ → Told
+locatedUnder year s (headers.Good f) latitude longitude = locatedBy s (frameOf year f) (southWest f latitude longitude)
+locatedUnder year s (headers.Refused r) latitude longitude = numbered r
 
-unfoldable pub located : List ℕ → ℤ → ℤ → Told
-located s latitude longitude = locatedUnder s (judged s) latitude longitude
+unfoldable pub located : Year → List ℕ → ℤ → ℤ → Told
+located year s latitude longitude = locatedUnder year s (judged s) latitude longitude

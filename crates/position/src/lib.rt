@@ -2,6 +2,7 @@
 ghost use mathlib.Core.Path.{_≡_};
 ghost use Prim.Native.Nat.{_≤_};
 ghost use Rattle.answers.specs.Told as told;
+ghost use Rattle.years.specs.Years.{under};
 ghost use Rattle.headers.specs.Judged.{frameOf};
 ghost use Rattle.position.specs.Asked.{Cornered, Anchored, Passed};
 ghost use Rattle.position.specs.Position as by;
@@ -13,6 +14,9 @@ use headers::judge::frame_of;
 use layout::DEGREE;
 use lookup::reach::reach_in;
 use lookup::read;
+use years::Named;
+use years::Year;
+use years::year_of;
 
 // Tenths of an arc-second in the full circle.
 const CIRCLE: usize = 12960000;
@@ -130,9 +134,9 @@ fn tell(column: usize, post: usize, reading: Reading) -> Located
 }
 
 // A position under headers that were judged good.
-fn locate_in(cell: &[u8], facts: Facts, latitude: i64, longitude: i64) -> Located
+fn locate_in(cell: &[u8], year: Year, facts: Facts, latitude: i64, longitude: i64) -> Located
     requires { ⌜ Anchored facts ⌝ }
-    ensures { λ r. ⌜ told.told told.position r ≡ by.locatedBy (now (cell .entry)) (frameOf facts) (by.southWest facts latitude longitude) ⌝ }
+    ensures { λ r. ⌜ told.told told.position r ≡ by.locatedBy (now (cell .entry)) (frameOf year facts) (by.southWest facts latitude longitude) ⌝ }
 {
     let grid = facts.grid;
     let interval = grid.interval;
@@ -141,20 +145,30 @@ fn locate_in(cell: &[u8], facts: Facts, latitude: i64, longitude: i64) -> Locate
         Within::In(corner) => {
             let column = nearest(interval.longitude, corner.column, corner.east);
             let post = nearest(interval.latitude, corner.post, corner.north);
-            let reached = reach_in(cell, frame_of(facts), column, post);
+            let reached = reach_in(cell, frame_of(year, facts), column, post);
             tell(column, post, read(reached))
         }
         Within::Off => Located::Refused(Refusal::OffGrid),
     }
 }
 
-// The post nearest a position, and its height or void; any bytes and any numbers.
-pub fn locate(cell: &[u8], latitude: i64, longitude: i64) -> Located
-    ensures { λ r. ⌜ told.told told.position r ≡ by.located (now (cell .entry)) latitude longitude ⌝ }
+// The post nearest a position, by the rules of a year.
+fn locate_under(year: Year, cell: &[u8], latitude: i64, longitude: i64) -> Located
+    ensures { λ r. ⌜ told.told told.position r ≡ by.located year (now (cell .entry)) latitude longitude ⌝ }
 {
     let judged = headers::judge::judge(cell);
     match judged {
-        headers::JudgedHeaders::Good(facts) => locate_in(cell, facts, latitude, longitude),
+        headers::JudgedHeaders::Good(facts) => locate_in(cell, year, facts, latitude, longitude),
         headers::JudgedHeaders::Refused(refusal) => Located::Refused(refusal),
+    }
+}
+
+// The post nearest a position, and its height or void; any number for the rule year, any bytes and any numbers.
+pub fn locate(named: u32, cell: &[u8], latitude: i64, longitude: i64) -> Located
+    ensures { λ r. ⌜ told.told told.position r ≡ under named (λ year. by.located year (now (cell .entry)) latitude longitude) ⌝ }
+{
+    match year_of(named) {
+        Named::Rule(year) => locate_under(year, cell, latitude, longitude),
+        Named::Unknown => Located::Refused(Refusal::Year(named as usize)),
     }
 }

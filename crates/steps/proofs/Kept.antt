@@ -7,9 +7,13 @@ use mathlib.Core.List.{List}
 use lib.Dec.{eqb}
 use lib.ListN.{length}
 use Rattle.octets.proofs.ChoiceLaws.{by-order, by-test}
-use Rattle.answers.specs.Told.{told, intake, more}
+use Rattle.answers.specs.Told.{told, intake, refused, more}
+use Rattle.answers.specs.declared.Refusal.the-variants as because
 use Rattle.answers.specs.declared.Verdict.{Verdict}
 use Rattle.answers.specs.declared.Verdict.the-variants as verdict
+use Rattle.years.specs.Years.{Names, NamesNone}
+use Rattle.years.specs.declared.Year.{Year}
+use Rattle.years.proofs.YearLaws.{named-is, none-is}
 use Rattle.layout.specs.Grid.{laid}
 use Rattle.layout.specs.declared.Grid.{Grid}
 use Rattle.layout.specs.declared.Frame.{Frame}
@@ -21,30 +25,49 @@ use Rattle.headers.specs.declared.Facts.{Facts}
 use Rattle.headers.specs.declared.JudgedHeaders.the-variants as headers
 use Rattle.intake.specs.Intake.{ended}
 use Rattle.intake.proofs.NeverMore.{refused-not-more, accepted-not-more}
-use Rattle.steps.specs.Steps.{saidOf, saidOfHeaders, saidOfLaid, saidOfColumn, dueAfter, after, Step}
+use Rattle.steps.specs.Steps.{saidOf, saidOfHeaders, saidOfLaid, saidOfColumn, dueAfter, advanced, afterAnswer, after, Step}
 use Rattle.steps.specs.declared.ColumnsDue.{ColumnsDue}
 use Rattle.steps.specs.declared.Phase.{Phase}
 use Rattle.steps.specs.declared.Phase.the-variants.{Headers, Columns, Over}
 use Rattle.steps.proofs.Pieces.{piece-past, laid-ranged}
 
--- a good header piece
-pub headers-good : (piece : List ℕ) (f : Facts) (edge : ℕ) (voids : Bool) → judged piece ≡ headers.Good f → edge ≡ edgeOf (f .latitude) → voids ≡ frameOf f .voids
-    → Step Headers piece verdict.More (Columns (record { level = f .grid .level; edge = edge; voids = voids; next = 0 }))
-headers-good piece f edge voids e el ev = record {
-  said = sym (ap saidOfHeaders e);
-  state = rw (el, ev) (sym (ap dueAfter e));
-}
+-- a good header piece, under a year
+pub headers-good : (year : Year) (piece : List ℕ) (f : Facts) (edge : ℕ) (voids : Bool) → judged piece ≡ headers.Good f → edge ≡ edgeOf (f .latitude)
+    → voids ≡ frameOf year f .voids → Columns (record { level = f .grid .level; edge = edge; voids = voids; next = 0 }) ≡ dueAfter year (judged piece)
+headers-good year piece f edge voids e el ev = rw (el, ev) (sym (ap (dueAfter year) e))
 
 -- an answer that is kept
 pub kept : (phase : Phase) (piece : List ℕ) (v a : Verdict) (later : Phase) → after phase piece v ≡ Over v → told intake v ≡ saidOf phase piece
     → a ≡ v → later ≡ Over v → Step phase piece a later
 kept phase piece v a later o e p q = record { said = ap (told intake) p ∙ e; state = q ∙ sym (ap (after phase piece) p ∙ o) }
 
+-- the first step, under a year that there is
+pub said-first : (n : ℕ) (year : Year) → Names n year → (piece : List ℕ) → saidOf (Headers n) piece ≡ saidOfHeaders (judged piece)
+said-first n year named piece = named-is n year named (refused 17 n) (λ (y : Year). saidOfHeaders (judged piece))
+
+pub due-first : (n : ℕ) (year : Year) → Names n year → (piece : List ℕ) → advanced (Headers n) piece ≡ dueAfter year (judged piece)
+due-first n year named piece = named-is n year named (Over (verdict.Refused (because.Year n))) (λ (y : Year). dueAfter y (judged piece))
+
+pub said-none : (n : ℕ) → NamesNone n → (piece : List ℕ) → saidOf (Headers n) piece ≡ refused 17 n
+said-none n none piece = none-is n none (refused 17 n) (λ (year : Year). saidOfHeaders (judged piece))
+
+-- so its promise, by what was done under that year, or that there was none
+pub first-kept : (n : ℕ) (year : Year) → Names n year → (piece : List ℕ) (answer : Verdict) (later : Phase)
+    → told intake answer ≡ saidOfHeaders (judged piece) → later ≡ afterAnswer (dueAfter year (judged piece)) answer → Step (Headers n) piece answer later
+first-kept n year named piece answer later said state = record {
+  said = said ∙ sym (said-first n year named piece);
+  state = state ∙ sym (ap (λ (next : Phase). afterAnswer next answer) (due-first n year named piece));
+}
+
+pub none-kept : (n : ℕ) → NamesNone n → (piece : List ℕ) (answer : Verdict) (later : Phase)
+    → answer ≡ verdict.Refused (because.Year n) → later ≡ Over (verdict.Refused (because.Year n)) → Step (Headers n) piece answer later
+none-kept n none piece answer later a o = kept (Headers n) piece (verdict.Refused (because.Year n)) answer later refl (sym (said-none n none piece)) a o
+
 -- once over
-pub over-kept : (v : Verdict) (piece : List ℕ) → after (Over v) piece v ≡ Over v
-over-kept verdict.More piece = refl
-over-kept (verdict.Accepted level columns posts) piece = refl
-over-kept (verdict.Refused r) piece = refl
+pub over-kept : (v : Verdict) → afterAnswer (Over v) v ≡ Over v
+over-kept verdict.More = refl
+over-kept (verdict.Accepted level columns posts) = refl
+over-kept (verdict.Refused r) = refl
 
 ended-not-more : (long : ℕ) (g : Grid) → ended long g ≡ more → ⊥
 unfolding ended

@@ -33,7 +33,7 @@ pub over-stays : (u : Verdict) (piece : List ℕ) (pieces : List (List ℕ)) (w 
 over-stays u piece [] w e = told-injective intake w u e
 over-stays u piece (p ∷ ps) w f =
     let same = told-injective intake (f .0) u (f .1 .0) in
-    over-stays u p ps w (subst (λ (phase : Phase). Fed phase p ps w) (ap (after (Over u) piece) same ∙ over-kept u piece) (f .1 .1))
+    over-stays u p ps w (subst (λ (phase : Phase). Fed phase p ps w) (ap (after (Over u) piece) same ∙ over-kept u) (f .1 .1))
 
 -- an answer other than "more" is the last
 pub settled : (v : Verdict) (t : Told) (phase : Phase) (piece p : List ℕ) (ps : List (List ℕ)) (w : Verdict)

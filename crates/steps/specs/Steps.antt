@@ -7,8 +7,11 @@ use lib.ListN.{length, take, drop}
 use lib.Dec.{leb, ltb}
 use Rattle.octets.specs.Choice.{pick}
 use Rattle.answers.specs.Told as said
+use Rattle.answers.specs.declared.Refusal.the-variants as because
 use Rattle.answers.specs.declared.Verdict.{Verdict}
 use Rattle.answers.specs.declared.Verdict.the-variants as verdict
+use Rattle.years.specs.declared.Year.{Year}
+use Rattle.years.specs.Years.{namedOf, byNamed, under}
 use Rattle.layout.specs.Grid.{laid, headerBytes}
 use Rattle.layout.specs.declared.Grid.{Grid}
 use Rattle.layout.specs.declared.Frame.{Frame}
@@ -44,9 +47,9 @@ saidOfLaid (Out g) voids k piece = saidOfColumn (record { grid = g; voids = void
 saidOfLaid NoLevel voids k piece = said.refused 8 0
 saidOfLaid NoZone voids k piece = said.refused 8 0
 
--- S1 to S5: what a step says
+-- S1 to S5, N17: what a step says. The year that was named counts in the first one alone
 abbrev pub saidOf : Phase → List ℕ → said.Told
-saidOf Headers piece = saidOfHeaders (judged piece)
+saidOf (Headers n) piece = under n (λ (year : Year). saidOfHeaders (judged piece))
 saidOf (Columns d) piece = saidOfLaid (laid (d .level) (d .edge)) (d .voids) (d .next) piece
 saidOf (Over v) piece = said.told said.intake v
 
@@ -57,25 +60,29 @@ wantedOf NoLevel k = 0
 wantedOf NoZone k = 0
 
 abbrev pub wanted : Phase → ℕ
-wanted Headers = headerBytes
+wanted (Headers n) = headerBytes
 wanted (Columns d) = wantedOf (laid (d .level) (d .edge)) (d .next)
 wanted (Over v) = 0
 
--- S1: what is due once a piece was good
-abbrev pub dueAfter : JudgedHeaders → Phase
-dueAfter (headers.Good f) = Columns (record { level = f .grid .level; edge = edgeOf (f .latitude); voids = frameOf f .voids; next = 0 })
-dueAfter (headers.Refused r) = Over (verdict.Refused r)
+-- S1: what is due once a piece was good: a year's rules leave whether voids are allowed, and nothing else
+abbrev pub dueAfter : Year → JudgedHeaders → Phase
+dueAfter year (headers.Good f) = Columns (record { level = f .grid .level; edge = edgeOf (f .latitude); voids = frameOf year f .voids; next = 0 })
+dueAfter year (headers.Refused r) = Over (verdict.Refused r)
 
 abbrev pub advanced : Phase → List ℕ → Phase
-advanced Headers piece = dueAfter (judged piece)
+advanced (Headers n) piece = byNamed (namedOf n) (Over (verdict.Refused (because.Year n))) (λ (year : Year). dueAfter year (judged piece))
 advanced (Columns d) piece = Columns (record { level = d .level; edge = d .edge; voids = d .voids; next = d .next + 1 })
 advanced (Over v) piece = Over v
 
--- S5: the state after a step that gave this answer: an answer other than "more" is kept
+-- S5: an answer other than "more" is kept
+abbrev pub afterAnswer : Phase → Verdict → Phase
+afterAnswer next verdict.More = next
+afterAnswer next (verdict.Accepted level columns posts) = Over (verdict.Accepted level columns posts)
+afterAnswer next (verdict.Refused r) = Over (verdict.Refused r)
+
+-- the state after a step that gave this answer
 abbrev pub after : Phase → List ℕ → Verdict → Phase
-after phase piece verdict.More = advanced phase piece
-after phase piece (verdict.Accepted level columns posts) = Over (verdict.Accepted level columns posts)
-after phase piece (verdict.Refused r) = Over (verdict.Refused r)
+after phase piece answer = afterAnswer (advanced phase piece) answer
 
 -- S1: the promise of a step: its answer, and the state that it hands back
 pub record Step (phase : Phase) (piece : List ℕ) (answer : Verdict) (later : Phase) : Type 0 where

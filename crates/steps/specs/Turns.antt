@@ -20,10 +20,10 @@ isFinal More = false
 isFinal (Accepted level columns posts) = true
 isFinal (Refused r) = true
 
--- S1 to S3: the states that "more" leads to, from a new one on, where no piece has bytes that would be passed over
-pub data Going : Phase → Type 0 where
-  new : Going Headers
-  on : (phase : Phase) (piece : List ℕ) → Going phase → length piece ≤ wanted phase → saidOf phase piece ≡ more → Going (advanced phase piece)
+-- S1 to S3: the states that "more" leads to, from a new one on for which this year was named, where no piece has bytes that would be passed over
+pub data Going (n : ℕ) : Phase → Type 0 where
+  new : Going n (Headers n)
+  on : (phase : Phase) (piece : List ℕ) → Going n phase → length piece ≤ wanted phase → saidOf phase piece ≡ more → Going n (advanced phase piece)
 
 -- the columns that are left, and the end
 abbrev pub turnsOf : Laid → ℕ → ℕ
@@ -37,6 +37,6 @@ mostColumns = columnsOf 2 0
 
 -- how many steps there are at most up to a final answer, the one that gives it among them
 abbrev pub turnsLeft : Phase → ℕ
-turnsLeft Headers = 1 + mostColumns + 1
+turnsLeft (Headers n) = 1 + mostColumns + 1
 turnsLeft (Columns d) = turnsOf (laid (d .level) (d .edge)) (d .next)
 turnsLeft (Over v) = 1

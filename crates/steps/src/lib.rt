@@ -3,7 +3,8 @@ ghost use mathlib.Core.Path.{_≡_};
 ghost use Prim.Native.Nat.{_≤_};
 ghost use Rattle.answers.specs.Told as told;
 ghost use Rattle.layout.specs.Ranges.{Ranged};
-ghost use Rattle.steps.specs.Steps.{saidOf, saidOfColumn, Step, wanted};
+ghost use Rattle.headers.specs.Judged.{judged};
+ghost use Rattle.steps.specs.Steps.{saidOf, saidOfHeaders, saidOfColumn, dueAfter, afterAnswer, Step, wanted};
 use answers::Refusal;
 use answers::Verdict;
 use columns::JudgedColumn;
@@ -13,6 +14,9 @@ use layout::Frame;
 use layout::HEADER_BYTES;
 use layout::Laid;
 use layout::zones::near_edge;
+use years::Named;
+use years::Year;
+use years::year_of;
 
 // The columns still due: of which grid, and which is next.
 pub struct ColumnsDue {
@@ -22,9 +26,9 @@ pub struct ColumnsDue {
     pub next: usize,
 }
 
-// What the next piece is for.
+// What the next piece is for; before the first step, the rule year that was named.
 pub enum Phase {
-    Headers,
+    Headers(u32),
     Columns(ColumnsDue),
     Over(Verdict),
 }
@@ -93,14 +97,16 @@ fn over(answer: Verdict) -> Stepped
     }
 }
 
-fn first_step(piece: &[u8]) -> Stepped
-    ensures { λ r. ⌜ Step Phase.Headers (now (piece .entry)) (r .answer) (r .steps .phase) ⌝ }
+// The first step by the rules of a year.
+fn headers_step(year: Year, piece: &[u8]) -> Stepped
+    ensures { λ r. ⌜ told.told told.intake (r .answer) ≡ saidOfHeaders (judged (now (piece .entry))) ⌝ }
+    ensures { λ r. ⌜ r .steps .phase ≡ afterAnswer (dueAfter year (judged (now (piece .entry)))) (r .answer) ⌝ }
 {
     let judged = headers::judge::judge(piece);
     match judged {
         headers::JudgedHeaders::Good(facts) => {
             let grid = facts.grid;
-            let frame = frame_of(facts);
+            let frame = frame_of(year, facts);
             Stepped {
                 steps: Steps {
                     phase: Phase::Columns(ColumnsDue {
@@ -114,6 +120,16 @@ fn first_step(piece: &[u8]) -> Stepped
             }
         }
         headers::JudgedHeaders::Refused(refusal) => over(Verdict::Refused(refusal)),
+    }
+}
+
+// The first step: no later one has a year.
+fn first_step(named: u32, piece: &[u8]) -> Stepped
+    ensures { λ r. ⌜ Step (Phase.Headers named) (now (piece .entry)) (r .answer) (r .steps .phase) ⌝ }
+{
+    match year_of(named) {
+        Named::Rule(year) => headers_step(year, piece),
+        Named::Unknown => over(Verdict::Refused(Refusal::Year(named as usize))),
     }
 }
 
@@ -166,11 +182,12 @@ fn column_wanted(due: ColumnsDue) -> usize
 }
 
 impl Steps {
-    pub fn new() -> Self
-        ensures { λ r. ⌜ r .phase ≡ Phase.Headers ⌝ }
+    // The state before the first step, with the rule year that it is to judge by; any number.
+    pub fn new(named: u32) -> Self
+        ensures { λ r. ⌜ r .phase ≡ Phase.Headers named ⌝ }
     {
         Self {
-            phase: Phase::Headers,
+            phase: Phase::Headers(named),
         }
     }
 
@@ -180,7 +197,7 @@ impl Steps {
     {
         let phase = self.phase;
         match phase {
-            Phase::Headers => HEADER_BYTES,
+            Phase::Headers(_) => HEADER_BYTES,
             Phase::Columns(due) => column_wanted(due),
             Phase::Over(_) => 0,
         }
@@ -192,7 +209,7 @@ impl Steps {
     {
         let phase = self.phase;
         match phase {
-            Phase::Headers => first_step(piece),
+            Phase::Headers(named) => first_step(named, piece),
             Phase::Columns(due) => column_step(due, piece),
             Phase::Over(answer) => over(answer),
         }

@@ -6,6 +6,7 @@ use description::Datum;
 use description::Description;
 use layout::HEADER_BYTES;
 
+mod by_year;
 mod said;
 mod sea;
 mod stream;
@@ -14,6 +15,9 @@ mod writer;
 const INPUT: i32 = 0;
 
 const OUTPUT: i32 = 1;
+
+// The rule year where an example does not turn on it.
+const YEAR: u32 = 2;
 
 // A level 0 cell of zone I, and one byte more.
 const CELL: usize = 34162;
@@ -35,7 +39,7 @@ fn print_streamed(level: usize)
 // Intake of the first n bytes.
 fn judge(cell: &[u8], n: usize) {
     if n <= cell.len() {
-        printing::verdict(OUTPUT, intake::intake(&cell[..n]));
+        printing::verdict(OUTPUT, intake::intake(YEAR, &cell[..n]));
     }
 }
 
@@ -108,6 +112,6 @@ fn main() {
     put_word(&mut cell, 0xFFFF);
     judge(&cell, CELL);
     put_headers(&mut cell, description(0, 359, 7));
-    judge(&cell, CELL);
+    by_year::run(&cell);
     writer::run();
 }

@@ -1,5 +1,6 @@
 // 8000 hex at sea: a post so stored is judged, read, kept by the edit of another post of its column, and replaced by its own.
 use crate::OUTPUT;
+use crate::YEAR;
 use answers::Reading;
 
 // The words of the first two posts of column 0, and its checksum.
@@ -16,7 +17,7 @@ fn print_column(cell: &[u8]) {
 
 // Whether lookup reads post 0 of column 0 as height 0.
 fn print_post(cell: &[u8]) {
-    let reading = lookup::look_up(cell, 0, 0);
+    let reading = lookup::look_up(YEAR, cell, 0, 0);
     if let Reading::Height(metres) = reading {
         if metres == 0 {
             io::write_all(OUTPUT, b"height 0\n");
@@ -30,9 +31,9 @@ pub fn run(cell: &mut [u8]) {
     crate::judge(cell, crate::CELL);
     print_post(cell);
     print_column(cell);
-    edit::edit(cell, 0, 1, 7);
+    edit::edit(YEAR, cell, 0, 1, 7);
     print_column(cell);
-    edit::edit(cell, 0, 0, 0);
+    edit::edit(YEAR, cell, 0, 0, 0);
     print_column(cell);
     print_post(cell);
 }

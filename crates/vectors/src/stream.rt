@@ -47,7 +47,7 @@ pub fn stream(level: usize, columns: usize, posts: usize) -> Verdict {
     let mut buffer = [0u8; PIECE];
     let mut heights = [0i16; POSTS];
     crate::put_headers(&mut buffer, crate::description(level, 187, 0));
-    let first = Steps::new().step(&buffer);
+    let first = Steps::new(crate::YEAR).step(&buffer);
     let mut steps = first.steps;
     for k in 0..columns {
         let later = pass_column(&mut buffer, &mut heights, steps, level, k, posts);

@@ -1,5 +1,6 @@
 // The writer over heights: each item out of range in turn, then what else it refuses, and a cell that it writes.
 use crate::OUTPUT;
+use crate::YEAR;
 use answers::Outcome;
 use answers::Verdict;
 use description::Accuracies;
@@ -48,7 +49,7 @@ fn good() -> Description {
 
 // What the writer answers, on a line.
 fn write(out: &mut [u8], d: Description, heights: &[i16]) {
-    let outcome = cell_writer::write(out, d, heights);
+    let outcome = cell_writer::write(YEAR, out, d, heights);
     match outcome {
         Outcome::Done => {
             io::write_all(OUTPUT, b"done\n");
@@ -133,7 +134,7 @@ fn try_rest(heights: &mut [i16]) {
 fn try_good(heights: &[i16]) {
     let mut cell = [0u8; CELL];
     write(&mut cell, good(), heights);
-    printing::verdict(OUTPUT, intake::intake(&cell));
+    printing::verdict(OUTPUT, intake::intake(YEAR, &cell));
     crate::said::print_items(&cell);
     crate::said::print_accuracies(&cell);
 }

@@ -45,6 +45,9 @@ enum-known-refusal-12 c = search needs
 enum-known-refusal-13 : tie.Need-enum-known-refusal-13
 enum-known-refusal-13 c = search needs
 
+enum-known-refusal-14 : tie.Need-enum-known-refusal-14
+enum-known-refusal-14 c = search needs
+
 returns : tie.Need-returns
 returns c = rw (c .before .refusal .given .1)
 
@@ -87,6 +90,9 @@ returns-13 c = rw (c .before .refusal12 .given .1)
 returns-14 : tie.Need-returns-14
 returns-14 c = rw (c .before .refusal13 .given .1)
 
+returns-15 : tie.Need-returns-15
+returns-15 c = rw (c .before .refusal14 .given .1)
+
 pub number-spec : {M : Type 1} → statement M
 number-spec =
     tie.close
@@ -105,6 +111,7 @@ number-spec =
     enum-known-refusal-11
     enum-known-refusal-12
     enum-known-refusal-13
+    enum-known-refusal-14
     returns
     returns-2
     returns-3
@@ -118,4 +125,5 @@ number-spec =
     returns-11
     returns-12
     returns-13
-    returns-14)
+    returns-14
+    returns-15)

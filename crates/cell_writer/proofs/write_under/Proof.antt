@@ -1,117 +1,65 @@
--- `write_under`: judged under the frame of the items, and put at the front where it was accepted.
+-- `write_under` of a cell: the lowest bad item, or as it is written under items in range.
+use Rattle.answers.specs.Told.{told, act}
 use Rattle.answers.specs.declared.Outcome.{Outcome}
-use Rattle.answers.specs.declared.Outcome.the-variants.{Done}
-use Rattle.headers.specs.Judged.{frameOf}
-use Rattle.layout.specs.declared.Frame.{Frame}
-use Rattle.layout.specs.Ranges.{Ranged}
-use Rattle.octets.proofs.JoinedLaws.{parts-small}
-use Rattle.sources.specs.Heights.{Heights, heightsFrom, heightsOf}
-use Rattle.sources.proofs.HeightLaws.{counted}
+use Rattle.description.proofs.RangedItems.{item-exactly}
+use Rattle.description.specs.Items.{badItem, inRange}
+use Rattle.sources.specs.Heights.{numbers, heightsOf}
+use Rattle.sources.proofs.HeightLaws.{numbers-are}
 use Rattle.column_writer.specs.Judged.{outputAfter}
-use Rattle.cell_writer.proofs.CellExactly.{UnderFine, under-fine}
-use Rattle.cell_writer.proofs.GridDue.{due-ranged}
+use Rattle.cell_writer.proofs.CellExactly.{items-fine}
+use Rattle.cell_writer.proofs.ItemExactly.{found-bad}
 use Rattle.cell_writer.proofs.write_under.Statement.{statement}
 use Rattle.cell_writer.proofs.write_under.Tie as tie
-use Rattle.cell_writer.specs.Cell.{postsDue, frameFor, judgedUnder, cellOf}
+use Rattle.cell_writer.specs.Cell.{frameFor, judgedUnder, judgedCellWrite, cellOf, cellTold, cellOutput}
 use borrow.Author.Needs.{needs}
+use lib.IntN.{ℤ}
 use lib.ListN.{length}
+use mathlib.Core.Bool.{true}
+use mathlib.Core.List.{List}
 use mathlib.Core.Path.{_≡_, sym, ap, _∙_}
 use native.Mathlib.Omega.{arith}
 
--- the frame is that of the items
-module _ (c : tie.After-frame-of) where
-  abbrev start : tie.Start
-  start = c .before .before .before .before
+-- no item is out of range
+module _ (c : tie.Else1) where
+  no-bad : badItem (c .before .before .before .args .d) ≡ 0
+  no-bad = sym (c .before .bad-item .ensures) ∙ omega (arith, c .if1 .left)
 
-  abbrev source : Heights
-  source = heightsFrom (start .args .source) (start .args .numbers .now) (start .args .bytes .now)
+  in-range : inRange (c .before .before .before .args .d) ≡ true
+  in-range = item-exactly (c .before .before .before .args .d) .0 .0 no-bad
 
-  is : c .frame-of .result ≡ frameFor (start .args .d)
-  is = c .frame-of .ensures ∙ ap frameOf (c .before .facts-for .ensures)
+bad-item-requires : tie.Need-bad-item-requires
+bad-item-requires c κs = search needs
 
-  grid-due : c .frame-of .result .grid ≡ frameFor (start .args .d) .grid
-  grid-due = ap (λ (f : Frame). f .grid) is
+returns : tie.Need-returns
+unfolding cellTold cellOutput judgedCellWrite
+returns c =
+    let a = c .before .before .before .args in
+    let refused = found-bad (c .before .bad-item .result) (badItem (a .d)) (judgedUnder (frameFor (a .year) (a .d)) (numbers (a .heights .now)) (length (a .out .now))) (c .before .bad-item .ensures) (c .if1 .taken) in
+    (ap (told act) refused, ap (λ (x : Outcome). outputAfter x (cellOf (a .d) (a .heights .now)) (a .out .now)) refused)
 
-  range : Ranged (c .frame-of .result .grid)
-  range = due-ranged (start .args .d) (start .pre) _ grid-due
+slice-aggregate-write-ranged : tie.Need-slice-aggregate-write-ranged
+slice-aggregate-write-ranged c = search needs
 
--- it was judged as the definition says
-judged-is : (c : tie.After-judge-posts) →
-    let f = c .before .before .before .before in
-    c .judge-posts .result ≡ judgedUnder (frameFor (start f .args .d)) (source f) (length (start f .args .out .now))
-unfolding judgedUnder
-judged-is c =
-    let f = c .before .before .before .before in
-    c .judge-posts .ensures ∙ ap (λ (x : Frame). judgedUnder x (source f) (length (start f .args .out .now))) (is f)
-
-facts-for-requires : tie.Need-facts-for-requires
-facts-for-requires c κs = search needs
-
-frame-of-requires : tie.Need-frame-of-requires
-frame-of-requires c κs = search needs
-
-mul-posts : tie.Need-mul-posts
-mul-posts c =
-    let f = c .before .before .before in
-    let g = f .frame-of .result .grid in
-    omega (arith, parts-small (g .columns) (g .posts) (range f .columns-high) (omega (arith, range f .posts-high)))
-
-judge-posts-requires : tie.Need-judge-posts-requires
-judge-posts-requires c κs = search needs
-
-enum-told : tie.Need-enum-told
-enum-told c = search needs
-
-put-cell-requires : tie.Need-put-cell-requires
-put-cell-requires c κs =
-    let e = c .before in
-    let j = e .before .before in
-    let f = j .before .before .before .before in
-    let fine : UnderFine (frameFor (start f .args .d)) (source f) (length (start f .args .out .now)) =
-    under-fine (frameFor (start f .args .d)) (source f) (length (start f .args .out .now)) (sym (judged-is j) ∙ e .enum-told .given .1)
-    in
-    record {
-      ranged = start f .pre;
-      due = grid-due f;
-      all = counted (source f) _ (fine .long) ∙ ap postsDue (sym (grid-due f));
-      room = rw (grid-due f) (fine .roomy);
-    }
-
-enum-told-2 : tie.Need-enum-told-2
-enum-told-2 c = search needs
+write-ranged-requires : tie.Need-write-ranged-requires
+write-ranged-requires c κs = in-range (c .before .before)
 
 same-length : tie.Need-same-length
 same-length c = search needs
 
-returns : tie.Need-returns
-returns c =
-    let p = c .before .before in
-    let e = p .before .before in
-    let j = e .before .before in
-    let f = j .before .before .before .before in
-    let a = start f .args in (
-      judged-is j,
-      p .put-cell .ensures ∙ ap (λ (x : Outcome). outputAfter x (cellOf (a .d) (heightsOf (source f))) (a .out .now)) (sym (e .enum-told .given .1) ∙ judged-is j),
-    )
-
 returns-2 : tie.Need-returns-2
+unfolding cellTold cellOutput
 returns-2 c =
-    let j = c .before .before in
-    let f = j .before .before .before .before in
-    let a = start f .args in
-    (judged-is j, ap (λ (x : Outcome). outputAfter x (cellOf (a .d) (heightsOf (source f))) (a .out .now)) (sym (c .enum-told2 .given .1) ∙ judged-is j))
+    let w = c .before .before in
+    let e = w .before .before .before in
+    let a = e .before .before .before .args in
+    let g = numbers (a .heights .now) in
+    let judged = sym (items-fine (a .year) (a .d) g (length (a .out .now)) (no-bad e)) in (
+      ap (told act) (w .write-ranged .ensures .0 ∙ judged),
+      w .write-ranged .ensures .1
+          ∙ ap (λ (x : Outcome). outputAfter x (cellOf (a .d) (heightsOf g)) (a .out .now)) judged
+          ∙ ap (λ (zs : List ℤ). outputAfter (judgedCellWrite (a .year) (a .d) g (length (a .out .now))) (cellOf (a .d) zs) (a .out .now)) (numbers-are (a .heights .now)),
+    )
 
 pub write-under-spec : {M : Type 1} → statement M
 write-under-spec =
-    tie.close
-    (tie.spec
-    facts-for-requires
-    frame-of-requires
-    mul-posts
-    judge-posts-requires
-    enum-told
-    put-cell-requires
-    enum-told-2
-    same-length
-    returns
-    returns-2)
+    tie.close (tie.spec bad-item-requires returns slice-aggregate-write-ranged write-ranged-requires same-length returns-2)

@@ -1,51 +1,30 @@
--- `intake`: the headers, then the columns of the frame that they give.
-use Rattle.headers.proofs.Exactly.{good-follows}
-use Rattle.headers.proofs.FirstFour.{good-facts}
-use Rattle.headers.specs.Judged.{judged}
-use Rattle.headers.specs.declared.JudgedHeaders.the-variants.{Good}
+-- `intake`: under the year that is named, or 17.
 use Rattle.intake.proofs.intake.Statement.{statement}
 use Rattle.intake.proofs.intake.Tie as tie
-use Rattle.intake.specs.Intake.{taken}
 use borrow.Author.Needs.{needs}
-use mathlib.Core.Path.{_≡_, sym, _∙_}
+use mathlib.Core.Path.{sym, _∙_}
 
-good : (c : tie.After-known-told) → judged (c .before .before .before .before .before .args .cell .now) ≡ Good (c .before .judged .given .0 .0)
-good c = sym (c .before .before .before .judge .ensures) ∙ c .before .judged .given .1
+year-of-requires : tie.Need-year-of-requires
+year-of-requires c κs = search needs
 
-judge-requires : tie.Need-judge-requires
-judge-requires c κs = search needs
+enum-known-year : tie.Need-enum-known-year
+enum-known-year c = search needs
 
-enum-known-judged : tie.Need-enum-known-judged
-enum-known-judged c = search needs
+intake-under-requires : tie.Need-intake-under-requires
+intake-under-requires c κs = search needs
 
-frame-of-requires : tie.Need-frame-of-requires
-frame-of-requires c κs = search needs
-
-take-columns-requires : tie.Need-take-columns-requires
-take-columns-requires c κs =
-    let s = c .before .before .before .before .before .before .args .cell .now in
-    let g = good (c .before) in
-    rw (c .frame-of .ensures) (record { headers = good-follows s _ g .0 .0; grid = good-facts s _ g .grid })
-
-enum-known-judged-2 : tie.Need-enum-known-judged-2
-enum-known-judged-2 c = search needs
+enum-told : tie.Need-enum-told
+enum-told c = search needs
 
 returns : tie.Need-returns
-unfolding taken
-returns c = rw (good (c .before .before)) (rw (c .before .frame-of .ensures) at (c .take-columns .ensures))
+returns c =
+    let y = c .before .before in
+    rw (sym (y .before .before .year-of .ensures) ∙ y .year .given .1) (c .intake-under .ensures)
 
 returns-2 : tie.Need-returns-2
-unfolding taken
-returns-2 c = rw (sym (c .before .before .before .judge .ensures) ∙ c .before .judged2 .given .1)
+returns-2 c = rw (sym (c .before .before .year-of .ensures) ∙ c .enum-told .given .1)
 
 pub intake-spec : {M : Type 1} → statement M
 intake-spec =
     tie.close
-    (tie.spec
-    judge-requires
-    enum-known-judged
-    frame-of-requires
-    take-columns-requires
-    enum-known-judged-2
-    returns
-    returns-2)
+    (tie.spec year-of-requires enum-known-year intake-under-requires enum-told returns returns-2)

@@ -2,7 +2,7 @@
 use Prim.Native.Nat.{ℕ, _≤_}
 use Rattle.steps.specs.Turns.{Going, new, turnsLeft}
 use Rattle.steps.proofs.TurnsLeft.{step-going, step-less}
-use Rattle.intake_program.specs.Found.{IsFailure, FilledUpTo}
+use Rattle.intake_program.specs.Found.{yearNamed, IsFailure, FilledUpTo}
 use Rattle.intake_program.specs.declared.Filled.{Filled}
 use Rattle.intake_program.specs.declared.Filled.the-variants.{Bytes, Failed}
 use borrow.Author.Needs.{needs}
@@ -29,7 +29,7 @@ piece-within : (n asked due : ℕ) (buffer : List ℕ) → n ≤ asked → asked
 piece-within n asked due buffer h e = omega (arith, length-take n buffer)
 
 abbrev Inv-loop : tie.InvT-loop
-Inv-loop buffer₀ steps₀ buffer steps = (length buffer ≡ 7214) × Going (steps .phase)
+Inv-loop buffer₀ steps₀ buffer steps = (length buffer ≡ 7214) × Going yearNamed (steps .phase)
 
 abbrev μ-loop : tie.MeasureT-loop
 μ-loop buffer₀ steps₀ buffer steps = turnsLeft (steps .phase)

@@ -1,48 +1,33 @@
--- `locate`: the headers, then the position under them.
-use Rattle.headers.proofs.FirstFour.{good-facts}
-use Rattle.headers.specs.Judged.{judged}
-use Rattle.headers.specs.declared.JudgedHeaders.the-variants.{Good}
+-- `locate`: under the year that is named, or 17.
 use Rattle.position.proofs.locate.Statement.{statement}
 use Rattle.position.proofs.locate.Tie as tie
-use Rattle.position.specs.Position.{located}
 use borrow.Author.Needs.{needs}
-use mathlib.Core.Path.{_≡_, sym, _∙_}
+use mathlib.Core.Path.{sym, _∙_}
 use mir.Facts.{toZ-ofZ}
 
-good : (c : tie.After-known-told) → judged (c .before .before .before .before .before .args .cell .now) ≡ Good (c .before .judged .given .0 .0)
-good c = sym (c .before .before .before .judge .ensures) ∙ c .before .judged .given .1
+year-of-requires : tie.Need-year-of-requires
+year-of-requires c κs = search needs
 
-judge-requires : tie.Need-judge-requires
-judge-requires c κs = search needs
+enum-known-year : tie.Need-enum-known-year
+enum-known-year c = search needs
 
-enum-known-judged : tie.Need-enum-known-judged
-enum-known-judged c = search needs
+locate-under-requires : tie.Need-locate-under-requires
+locate-under-requires c κs = search needs
 
-locate-in-requires : tie.Need-locate-in-requires
-locate-in-requires c κs =
-    let f = good-facts (c .before .before .before .before .before .args .cell .now) _ (good c) in
-    record { grid = f .grid; latitude = f .latitude; longitude = f .longitude }
-
-enum-known-judged-2 : tie.Need-enum-known-judged-2
-enum-known-judged-2 c = search needs
+enum-told : tie.Need-enum-told
+enum-told c = search needs
 
 returns : tie.Need-returns
-unfolding located
 returns c =
-    let start = c .before .before .before .before .before .before in
-    rw (good (c .before)) (rw (toZ-ofZ (start .fits .latitude), toZ-ofZ (start .fits .longitude)) at (c .locate-in .ensures))
+    let y = c .before .before in
+    let start = y .before .before .before .before in
+    rw (sym (y .before .before .year-of .ensures) ∙ y .year .given .1)
+    (rw (toZ-ofZ (start .fits .latitude), toZ-ofZ (start .fits .longitude)) at (c .locate-under .ensures))
 
 returns-2 : tie.Need-returns-2
-unfolding located
-returns-2 c = rw (sym (c .before .before .before .judge .ensures) ∙ c .before .judged2 .given .1)
+returns-2 c = rw (sym (c .before .before .year-of .ensures) ∙ c .enum-told .given .1)
 
 pub locate-spec : {M : Type 1} → statement M
 locate-spec =
     tie.close
-    (tie.spec
-    judge-requires
-    enum-known-judged
-    locate-in-requires
-    enum-known-judged-2
-    returns
-    returns-2)
+    (tie.spec year-of-requires enum-known-year locate-under-requires enum-told returns returns-2)

@@ -1,49 +1,36 @@
--- `first_step`: by how the headers are judged.
-use Rattle.layout.specs.declared.Frame.{Frame}
-use Rattle.steps.proofs.Kept.{headers-good, kept}
+-- `first_step`: under the year that is named, or 17, which is kept.
+use Rattle.steps.proofs.Kept.{first-kept, none-kept}
 use Rattle.steps.proofs.first_step.Statement.{statement}
 use Rattle.steps.proofs.first_step.Tie as tie
-use Rattle.steps.specs.Steps.{saidOfHeaders}
 use borrow.Author.Needs.{needs}
-use mathlib.Core.Path.{refl, sym, ap, _∙_}
+use mathlib.Core.Path.{sym, _∙_}
 
-judge-requires : tie.Need-judge-requires
-judge-requires c κs = search needs
+year-of-requires : tie.Need-year-of-requires
+year-of-requires c κs = search needs
 
-enum-known-judged : tie.Need-enum-known-judged
-enum-known-judged c = search needs
+enum-known-year : tie.Need-enum-known-year
+enum-known-year c = search needs
 
-frame-of-requires : tie.Need-frame-of-requires
-frame-of-requires c κs = search needs
+headers-step-requires : tie.Need-headers-step-requires
+headers-step-requires c κs = search needs
 
-near-edge-requires : tie.Need-near-edge-requires
-near-edge-requires c κs = search needs
-
-enum-known-judged-2 : tie.Need-enum-known-judged-2
-enum-known-judged-2 c = search needs
+enum-told : tie.Need-enum-told
+enum-told c = search needs
 
 over-requires : tie.Need-over-requires
 over-requires c κs = search needs
 
 returns : tie.Need-returns
 returns c =
-    let g = c .before .before .before .before in
-    headers-good _ _ _ _ (sym (g .before .before .judge .ensures) ∙ g .judged .given .1) (c .near-edge .ensures) (ap (λ (f : Frame). f .voids) (c .before .frame-of .ensures))
+    let y = c .before .before in
+    first-kept _ _ (sym (y .before .before .year-of .ensures) ∙ y .year .given .1) _ _ _ (c .headers-step .ensures .0) (c .headers-step .ensures .1)
 
 returns-2 : tie.Need-returns-2
 returns-2 c =
-    let g = c .before .before in
-    kept _ _ _ _ _ refl (sym (ap saidOfHeaders (sym (g .before .before .judge .ensures) ∙ g .judged2 .given .1))) (c .over .ensures .0) (c .over .ensures .1)
+    let u = c .before in
+    none-kept _ (sym (u .before .before .year-of .ensures) ∙ u .enum-told .given .1) _ _ _ (c .over .ensures .0) (c .over .ensures .1)
 
 pub first-step-spec : {M : Type 1} → statement M
 first-step-spec =
     tie.close
-    (tie.spec
-    judge-requires
-    enum-known-judged
-    frame-of-requires
-    near-edge-requires
-    enum-known-judged-2
-    over-requires
-    returns
-    returns-2)
+    (tie.spec year-of-requires enum-known-year headers-step-requires enum-told over-requires returns returns-2)

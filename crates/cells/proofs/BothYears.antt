@@ -1,0 +1,38 @@
+-- V1: a cell under both years: one that year 2 accepts follows year 1's rules too; at level 2, or complete, it follows both or neither.
+use Prim.Native.Nat.{ℕ}
+use mathlib.Core.Path.{_≡_, refl, subst}
+use mathlib.Core.Bool.{Bool, true, false}
+use mathlib.Core.List.{List}
+use Rattle.years.specs.declared.Year.{Year}
+use Rattle.years.specs.declared.Year.the-variants.{One, Two}
+use Rattle.layout.specs.declared.Frame.{Frame}
+use Rattle.posts.specs.Words.{wordAllowed}
+use Rattle.posts.proofs.RoundTrip.{voids-more}
+use Rattle.headers.specs.Judged.{factsIn, frameIn}
+use Rattle.headers.proofs.Voids.{allowed-before}
+use Rattle.columns.specs.Column.{GoodColumn}
+use Rattle.cells.specs.Cell.{Framed, Cell}
+
+-- where more is allowed, a good column stays good
+wider : (a b : Bool) → (a ≡ true → b ≡ true) → (w : ℕ) → wordAllowed a w ≡ true → wordAllowed b w ≡ true
+wider true b more w e = rw (more refl) e
+wider false true more w e = voids-more w e
+wider false false more w e = e
+
+module _ (s : List ℕ) where
+  pub column-before : (column : List ℕ) (k posts : ℕ) → GoodColumn column k posts (frameIn Two s .voids) → GoodColumn column k posts (frameIn One s .voids)
+  column-before column k posts good = record {
+    long = good .long;
+    right = good .right;
+    words = λ i h. wider (frameIn Two s .voids) (frameIn One s .voids) (allowed-before (factsIn s)) _ (good .words i h);
+  }
+
+  pub cell-before : Cell Two s → Cell One s
+  cell-before cell = record {
+    headers = cell .headers;
+    framed = record { long = cell .framed .long; columns = λ k h. column-before _ k _ (cell .framed .columns k h) };
+  }
+
+  -- where two years give one frame, as at level 2
+  pub cell-alike : (a b : Year) → frameIn a s ≡ frameIn b s → Cell a s → Cell b s
+  cell-alike a b same cell = record { headers = cell .headers; framed = subst (λ (f : Frame). Framed f s) same (cell .framed) }

@@ -1,0 +1,2 @@
+-- The laws of years that are named.
+pub mod YearLaws
