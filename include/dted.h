@@ -23,9 +23,9 @@
 #include <assert.h>
 #endif
 
-#define DTED_VERSION "0.4.0"
+#define DTED_VERSION "0.5.0"
 #define DTED_VERSION_MAJOR 0
-#define DTED_VERSION_MINOR 4
+#define DTED_VERSION_MINOR 5
 #define DTED_VERSION_PATCH 0
 
 /* The compiler says where an answer is dropped: it alone tells whether anything was done. */
@@ -60,6 +60,7 @@ enum {
     DTED_GRID_LENGTH = 10, /* the grid's length differs: the number of posts due */
     DTED_HEIGHT = 11,     /* a height or void is not allowed: its index in the grid or the posts given; 0 for an edit */
     DTED_ROOM = 12,       /* the output is too short: the length due */
+    DTED_YEAR = 17,       /* a rule year that is neither 1 nor 2: the year named */
     /* A header field breaks its rule. Place of all three: the offset of its first byte that is not as due, or that of its first byte
      * where more than one text was good there. dted(3) says field by field which of them it can give. */
     DTED_FIELD_IMPOSSIBLE = 21,  /* no header that is accepted has these bytes in that field */
@@ -67,8 +68,19 @@ enum {
     DTED_FIELD_OFF_TABLE = 23    /* another header may have them there; here the interval or count is not that of level and zone */
 };
 
-/* Heights are metres, -12,000 to 9,000. A post without a height is this, which a cell may hold where its DTED_PARTIAL is not 0. */
+/* Heights are metres, -12,000 to 9,000. A post without a height is this; the rule year says which cells may hold it. */
 #define DTED_VOID (-32767)
+
+/* Rule years, of which a call that judges, looks up, edits or writes posts is given one. A cell may hold voids
+ *   under DTED_YEAR_1 where its DTED_PARTIAL is not 0,
+ *   under DTED_YEAR_2 where that is so and it is of level 2, as the DTED performance specification asks (3.5.4, 3.5.5).
+ * Nothing else depends on the year. A void that is stored elsewhere is DTED_WORD, one that is given there DTED_HEIGHT. A partial cell of
+ * level 0 or 1 without voids is accepted under both.
+ * A host names DTED_YEAR_2 for every delivery since the year of version 0.5.0, and DTED_YEAR_1 for older ones, whose cells of levels 0
+ * and 1 may hold voids. A cell that is accepted under DTED_YEAR_2 is accepted under DTED_YEAR_1 too, with equal posts; so a host that does
+ * not know how old a file is judges it under DTED_YEAR_2, and where that is refused as DTED_WORD may take DTED_YEAR_1, knowingly.
+ * All calls on one cell name one year, edits in particular: what dted(3) says of a cell after edits is said of one year. */
+enum { DTED_YEAR_1 = 1, DTED_YEAR_2 = 2 };
 
 /* Bytes before the first column, before the first post of a column, and of the longest column and cell. Whoever reads a file into
  * a buffer makes it a byte longer than the longest cell, so that DTED_SURPLUS can be seen. */
@@ -94,7 +106,7 @@ enum {
     DTED_ABSOLUTE_VERTICAL = 9,
     DTED_RELATIVE_HORIZONTAL = 10,
     DTED_RELATIVE_VERTICAL = 11,
-    DTED_PARTIAL = 12,            /* 0 for a complete cell, 1 to 99 for one that may hold voids */
+    DTED_PARTIAL = 12,            /* 0 for a complete cell, 1 to 99 for one that may hold voids where the rule year allows them */
     DTED_ITEMS = 13
 };
 
@@ -107,26 +119,26 @@ enum {
 /* `Order` gives the numbers of the refusals that a call looks for, in turn: the first that applies is answered. Of 21 to 23 it is the
  * one that the first broken field gives, whichever that is: the fields are judged in the order of dted(5). */
 
-/* Judges a whole cell. Order: 1, 21 to 23, then column after column from the west 3, 4, 5, 6, then 7. The answer holds
+/* Judges a whole cell. Order: 17, 1, 21 to 23, then column after column from the west 3, 4, 5, 6, then 7. The answer holds
  * level, columns and posts to a column. */
-DTED_MUST_USE dted_answer dted_intake(const uint8_t *cell, size_t length);
+DTED_MUST_USE dted_answer dted_intake(uint32_t year, const uint8_t *cell, size_t length);
 
 /* The description of a cell, from its headers alone. Order: 1, 21 to 23. Fills all of `items`, or none where it is refused. The
  * answer holds nothing. */
 DTED_MUST_USE dted_answer dted_describe(const uint8_t *cell, size_t length, int64_t items[DTED_ITEMS]);
 
-/* The height of one post; column 0 is the western one, post 0 the southern one. Order: 1, 21 to 23, 8, then 3, 4, 5, 6 for
+/* The height of one post; column 0 is the western one, post 0 the southern one. Order: 17, 1, 21 to 23, 8, then 3, 4, 5, 6 for
  * that column alone. The answer holds the height, or DTED_VOID. */
-DTED_MUST_USE dted_answer dted_post(const uint8_t *cell, size_t length, uint64_t column, uint64_t post);
+DTED_MUST_USE dted_answer dted_post(uint32_t year, const uint8_t *cell, size_t length, uint64_t column, uint64_t post);
 
 /* The post nearest a position, in tenths of arc-seconds, north and east positive, edges included; of two equally near the
  * western or southern one. 6480000 and -6480000 are one meridian. Order as for dted_post. The answer holds column, post and
  * height. */
-DTED_MUST_USE dted_answer dted_position(const uint8_t *cell, size_t length, int64_t latitude, int64_t longitude);
+DTED_MUST_USE dted_answer dted_position(uint32_t year, const uint8_t *cell, size_t length, int64_t latitude, int64_t longitude);
 
 /* Makes one post this height, or DTED_VOID. Order as for dted_post, then 11. It writes the two bytes of the post and the four
  * of its column's checksum, and nothing else. The answer holds nothing. */
-DTED_MUST_USE dted_answer dted_edit(uint8_t *cell, size_t length, uint64_t column, uint64_t post, int64_t height);
+DTED_MUST_USE dted_answer dted_edit(uint32_t year, uint8_t *cell, size_t length, uint64_t column, uint64_t post, int64_t height);
 
 /* ---- writers ---- */
 
@@ -135,14 +147,14 @@ DTED_MUST_USE dted_answer dted_edit(uint8_t *cell, size_t length, uint64_t colum
 DTED_MUST_USE dted_answer dted_grid(uint64_t level, int64_t latitude);
 
 /* Writes the cell of `items` and of a grid at the front of `out`; bytes past the cell stay. The grid is 16-bit two's complement
- * heights, high byte first, column after column from the west and each from the south: `bytes` is its length in bytes. Order: 9
+ * heights, high byte first, column after column from the west and each from the south: `bytes` is its length in bytes. Order: 17, 9
  * (lowest item), 10 (also where `bytes` is odd), 11 (lowest index), 12. The answer holds nothing; the cell's length is that of
- * dted_grid's answer for its level and latitude. */
-DTED_MUST_USE dted_answer dted_write(uint8_t *out, size_t room, const int64_t items[DTED_ITEMS], const uint8_t *grid, size_t bytes);
+ * dted_grid's answer for its level and latitude. Under the same year the cell is accepted, with the posts given. */
+DTED_MUST_USE dted_answer dted_write(uint32_t year, uint8_t *out, size_t room, const int64_t items[DTED_ITEMS], const uint8_t *grid, size_t bytes);
 
 /* Writes one column from a level, its number and its posts, voids allowed, at the front of `out`; bytes past it stay. Posts as in
- * a grid. Order: 9 (item 1), 8 (a number not below the level's columns at the equator), 10, 11, 12. The answer
- * holds nothing. */
+ * a grid. A cell takes a column with voids only where its rule year allows them. Order: 9 (item 1), 8 (a number not below the level's
+ * columns at the equator), 10, 11, 12. The answer holds nothing. */
 DTED_MUST_USE dted_answer dted_write_column(uint8_t *out, size_t room, uint64_t level, uint64_t number, const uint8_t *posts, size_t bytes);
 
 #ifdef __cplusplus

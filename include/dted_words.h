@@ -33,6 +33,7 @@ static const dted_refusal_words_ dted_refusals_[] = {
     {DTED_GRID_LENGTH, "the grid's length differs", "posts due"},
     {DTED_HEIGHT, "a height or void is not allowed", "index"},
     {DTED_ROOM, "the output is too short", "length due"},
+    {DTED_YEAR, "the rule year is neither 1 nor 2", "year"},
     {DTED_FIELD_IMPOSSIBLE, "a header field has bytes that are never accepted there", "offset"},
     {DTED_FIELD_CONTRADICTS, "a header field contradicts another field", "offset"},
     {DTED_FIELD_OFF_TABLE, "an interval or a count is not that of level and zone", "offset"},
