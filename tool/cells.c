@@ -26,11 +26,21 @@ static void put_column(char *text, size_t room, const struct cell *cell, dted_an
         snprintf(text + length, room - (size_t)length, ", post %" PRIu64, (place % size - DTED_PREAMBLE_BYTES) / 2);
 }
 
+/* Whether year 1 takes a cell that year 2 refuses for a word: then it is for its voids alone, as old cells have them. */
+static bool is_of_year_1(const struct cell *cell, dted_answer answer) {
+    if (cell->year != DTED_YEAR_2 || dted_number(answer) != DTED_WORD)
+        return false;
+    return dted_number(dted_intake(DTED_YEAR_1, cell->bytes, cell->length)) == DTED_OK;
+}
+
 const char *refusal_words(const struct cell *cell, dted_answer answer) {
-    static char text[DTED_WORDS_ROOM + 64];
+    static const char hint[] = "; --year 1 takes it";
+    static char text[DTED_WORDS_ROOM + 64 + sizeof hint];
     dted_refusal(text, DTED_WORDS_ROOM, answer);
     size_t length = strlen(text);
     put_column(text + length, sizeof text - length, cell, answer);
+    if (is_of_year_1(cell, answer))
+        strcat(text, hint);
     return text;
 }
 
@@ -52,7 +62,7 @@ int refused(const struct cell *cell, const char *name, dted_answer answer) {
 }
 
 int judge_cell(struct cell *cell, const char *name) {
-    cell->grid = dted_intake(cell->bytes, cell->length);
+    cell->grid = dted_intake(cell->year, cell->bytes, cell->length);
     return dted_number(cell->grid) == DTED_OK ? DONE : refused(cell, name, cell->grid);
 }
 

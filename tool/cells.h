@@ -8,10 +8,11 @@
 /* One byte more than the longest cell has, so that a file that goes on is told from one that ends there. */
 #define CELL_ROOM ((size_t)DTED_LONGEST_CELL + 1)
 
-/* The bytes of a file, in a buffer of CELL_ROOM, and what dted_intake answers of them. */
+/* The bytes of a file, in a buffer of CELL_ROOM, the rule year that every call on them names, and what dted_intake answers of them. */
 struct cell {
     uint8_t *bytes;
     size_t length;
+    uint32_t year;
     dted_answer grid;
 };
 
@@ -27,7 +28,8 @@ int judge_cell(struct cell *cell, const char *name);
 /* Tells a refusal on standard error. */
 int refused(const struct cell *cell, const char *name, dted_answer answer);
 
-/* A refusal in words, with column and post where its place is in one. Good until the next call. */
+/* A refusal in words, with column and post where its place is in one, and a word of the year that takes the cell where that is another
+ * one. Good until the next call. */
 const char *refusal_words(const struct cell *cell, dted_answer answer);
 
 /* The level, columns and posts of an accepted cell in words. Good until the next call. */

@@ -19,7 +19,7 @@ static bool read_told(struct cell *cell, const char *name, struct progress *prog
 
 /* The line of a file that was read. */
 static int say_verdict(struct cell *cell, const char *name, struct progress *progress) {
-    cell->grid = dted_intake(cell->bytes, cell->length);
+    cell->grid = dted_intake(cell->year, cell->bytes, cell->length);
     wipe_progress(progress, STDOUT_FILENO);
     if (dted_number(cell->grid) == DTED_OK)
         return say(STDOUT_FILENO, "%s: accepted, %s\n", shown(name), grid_words(cell->grid));

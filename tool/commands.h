@@ -1,5 +1,5 @@
-/* commands.h - the commands. Each is lent room for a cell, and its own words, of which main.c has counted that they are there; null
- * ends them. Each answers an exit status. */
+/* commands.h - the commands. Each is lent room for a cell with the rule year in it, and its own words, of which main.c has counted that
+ * they are there; null ends them. Each answers an exit status. */
 #ifndef COMMANDS_H
 #define COMMANDS_H
 

@@ -14,7 +14,7 @@ int post(struct cell *cell, char **words) {
     int status = take_cell(cell, words[0]);
     if (status != DONE)
         return status;
-    dted_answer answer = dted_post(cell->bytes, cell->length, column, number);
+    dted_answer answer = dted_post(cell->year, cell->bytes, cell->length, column, number);
     if (dted_number(answer) != DTED_OK)
         return refused(cell, words[0], answer);
     return say(STDOUT_FILENO, "%s\n", height_words(text, dted_height(answer)));
@@ -28,7 +28,7 @@ int at(struct cell *cell, char **words) {
     int status = take_cell(cell, words[0]);
     if (status != DONE)
         return status;
-    dted_answer answer = dted_position(cell->bytes, cell->length, latitude, longitude);
+    dted_answer answer = dted_position(cell->year, cell->bytes, cell->length, latitude, longitude);
     if (dted_number(answer) != DTED_OK)
         return refused(cell, words[0], answer);
     return say(STDOUT_FILENO, "%s column %u post %u\n", height_words(text, dted_height(answer)), dted_position_column(answer),

@@ -28,6 +28,11 @@ bool take_height(const char *word, int64_t *height) {
     return (end && *end == '\0' && errno == 0) || wrong_word(word, "neither whole metres nor void");
 }
 
+bool take_year(const char *word, uint32_t *year) {
+    *year = strcmp(word, "1") == 0 ? DTED_YEAR_1 : DTED_YEAR_2;
+    return *year == DTED_YEAR_1 || strcmp(word, "2") == 0 || wrong_word(word, "neither rule year 1 nor 2");
+}
+
 bool take_factor(const char *word, double *value) {
     char *end;
     *value = strtod(word, &end);

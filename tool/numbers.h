@@ -11,6 +11,9 @@ bool take_count(const char *word, uint64_t *value);
 /* Metres, of up to 64 bits with a sign, or `void`. */
 bool take_height(const char *word, int64_t *height);
 
+/* A rule year of dted.h. */
+bool take_year(const char *word, uint32_t *year);
+
 /* A finite number above 0. */
 bool take_factor(const char *word, double *value);
 

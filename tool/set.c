@@ -23,11 +23,11 @@ static int correct(struct cell *cell, int descriptor, const char *name, struct c
     int status = judge_cell(cell, name);
     if (status != DONE)
         return status;
-    dted_answer before = dted_post(cell->bytes, cell->length, correction->column, correction->post);
+    dted_answer before = dted_post(cell->year, cell->bytes, cell->length, correction->column, correction->post);
     if (dted_number(before) != DTED_OK)
         return refused(cell, name, before);
     correction->before = dted_height(before);
-    dted_answer edit = dted_edit(cell->bytes, cell->length, correction->column, correction->post, correction->height);
+    dted_answer edit = dted_edit(cell->year, cell->bytes, cell->length, correction->column, correction->post, correction->height);
     return dted_number(edit) == DTED_OK ? DONE : refused(cell, name, edit);
 }
 

@@ -83,7 +83,7 @@ def wide(folder):
     west = ROOT / "cells/west_180.dt0"
     told("180 by its other name", ("at", west, "0.5", "180E"), f"{height(west.read_bytes(), 0, 60)} column 0 post 60\n")
     void = ROOT / "cells/void_in_partial.dt0"
-    told("a void", ("at", void, "90", "1"), "void column 20 post 120\n")
+    told("a void", ("at", "--year", 1, void, "90", "1"), "void column 20 post 120\n")
     told("the word 8000", ("at", ROOT / "cells/negative_zero.dt0", "89:30:30", "0.1"), "0 column 2 post 61\n")
 
 

@@ -21,6 +21,7 @@ LINES = (("empty.dt0", "refused 1: fewer bytes than the headers have (length 0)"
          ("wrong_first_checksum.dt0", "refused 5: a checksum differs (offset 3678), column 0"),
          ("too_high.dt0", "refused 6: a post word is not allowed (offset 3954), column 2, post 5"),
          ("void_in_complete.dt0", "refused 6: a post word is not allowed (offset 8756), column 20, post 120"),
+         ("void_in_partial.dt0", "refused 6: a post word is not allowed (offset 8756), column 20, post 120; --year 1 takes it"),
          ("one_long.dt0", "refused 7: bytes stand after the last column (length due 8762)"),
          ("north_89.dt0", GOOD),
          ("negative_zero.dt0", GOOD))

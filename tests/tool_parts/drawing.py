@@ -49,7 +49,7 @@ def pixels():
         cell = stored(name)[0]
         for column, post in voids:
             cell = with_height(cell, column, post, None)
-        due, picture = drawn(cell, latitude, times), run("relief", "-", "-", times, input=cell).stdout
+        due, picture = drawn(cell, latitude, times), run("relief", "--year", 1, "-", "-", times, input=cell).stdout
         got = list(picture[len(picture) - len(due):])
         _, _, columns, posts = second_writer.grid(0, latitude)
         same(f"the heading of {name}", f"P5\n{columns} {posts}\n255\n".encode(), picture[:len(picture) - len(due)])
@@ -66,7 +66,7 @@ def shipped(folder):
          subprocess.run([str(ROOT / "tools/png"), "4"], input=picture, stdout=subprocess.PIPE).stdout)
     same("what others may do with it", 0o100664, os.stat(out).st_mode)
     told("relief on standard output", ("relief", "-", "-", "2.0"), picture, input=TERRAIN.read_bytes())
-    told("relief over another file", ("relief", ROOT / "cells/void_in_partial.dt0", out))
+    told("relief over another file", ("relief", "--year", 1, ROOT / "cells/void_in_partial.dt0", out))
     small = out.read_bytes()
     same("its heading", b"P5\n21 121\n255\n", small[:14])
     same("its pixels, and the black ones", (21 * 121, [20]), (len(small) - 14, [i for i, p in enumerate(small[14:]) if p == 0]))

@@ -7,7 +7,11 @@ from running import ROOT, filled, fresh, named, run, same, second_writer, stored
 FLAGS = ("-std=c99", "-O1", "-fsanitize=address,undefined", "-fno-sanitize-recover=all", "-DDTED_CHECK", f"-I{ROOT}/include")
 LONG = "../long.dt2"  # goes on behind the longest cell, so that it fills the buffer
 RUNS = (("check", *sorted((ROOT / "cells").glob("*.dt?")), LONG, "/dev/zero", "not there", "n" * 5000),
+        ("check", "--year", 1, *sorted((ROOT / "cells").glob("*.dt?"))),
+        ("check", ROOT / "cells/north_89.dt0", "--year", 1, "--", ROOT / "cells/void_in_partial.dt0"),
+        ("check", "--year"),
         ("info", ROOT / "cells/void_in_partial.dt0"),
+        ("info", "--year", 1, ROOT / "cells/void_in_partial.dt0"),
         ("info", LONG),
         ("post", "cell.dt0", 120, 120),
         ("post", "cell.dt0", 121, 0),
@@ -17,7 +21,7 @@ RUNS = (("check", *sorted((ROOT / "cells").glob("*.dt?")), LONG, "/dev/zero", "n
         ("set", "cell.dt0", 120, 120, "void"),
         ("set", LONG, 0, 0, 0),
         ("relief", "cell.dt0", "out.pgm", "1e308"),
-        ("relief", ROOT / "cells/void_in_partial.dt0", "-"),
+        ("relief", "--year", 1, ROOT / "cells/void_in_partial.dt0", "-"),
         ("relief", "--", "cell.dt0"),
         ("post", "-h"))
 

@@ -24,7 +24,7 @@ def corrections(folder):
                                    *([(3, 3, "void"), (3, 4, "-32767")] if "partial" in name else [])):
             before, after = height(data, column, post), None if word in ("void", "-32767") else int(word)
             data = with_height(data, column, post, after)
-            told(f"set {column} {post} {word}", ("set", cell, column, post, word),
+            told(f"set {column} {post} {word}", ("set", *(("--year", 1) if "partial" in name else ()), cell, column, post, word),
                  f"{cell}: column {column}, post {post}: {shown(before)}, now {shown(after)}\n")
             same("its bytes", True, cell.read_bytes() == data)
     same("files in the folder", ["cell.dt0"], named(folder))

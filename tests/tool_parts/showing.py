@@ -39,9 +39,11 @@ def info(folder):
     low, high = with_height(items, 7, 120, -12000), with_height(with_height(items, 0, 1, 9000), 3, 3, 9000)
     for what, cell in (("every item", items), ("the lowest height", low), ("the highest height, twice", high)):
         filled(folder / "cell", cell)
-        told(f"info: {what}", ("info", "cell"), INFO.format(lowest=first(cell, 41, min), highest=first(cell, 41, max), voids=1), cwd=folder)
+        told(f"info: {what}", ("info", "--year", 1, "cell"), INFO.format(lowest=first(cell, 41, min), highest=first(cell, 41, max), voids=1),
+             cwd=folder)
     voids = items[:3428] + b"".join(second_writer.column(k, [0x7FFF + 0x8000] * 121) for k in range(41))
-    told("info: voids alone", ("info", "-"), INFO.format(lowest="none", highest="none", voids=4961).replace("cell:", "-:"), input=voids)
+    told("info: voids alone", ("info", "--year", 1, "-"), INFO.format(lowest="none", highest="none", voids=4961).replace("cell:", "-:"),
+         input=voids)
     terrain = run("info", ROOT / "cells/terrain.dt0").stdout.decode()
     for row in ("south-west corner             46N 7E", "vertical datum                E96", "accuracy                      not available",
                 "relative vertical accuracy    not available", "posts                         14641"):
@@ -61,12 +63,12 @@ def posts():
     chosen = random.Random(1)
     for column, post in [(0, 0), (20, 120), (20, 119), *((chosen.randrange(21), chosen.randrange(121)) for _ in range(20))]:
         metres = height(cell, column, post)
-        told(f"post {column} {post}", ("post", path, column, post), "void\n" if metres is None else f"{metres}\n")
+        told(f"post {column} {post}", ("post", "--year", 1, path, column, post), "void\n" if metres is None else f"{metres}\n")
     for post in (60, 61):
         told(f"post {post}, height 0 by either word", ("post", ROOT / "cells/negative_zero.dt0", 2, post), "0\n")
-    told("a post with zeros in front", ("post", path, "0020", "0120"), "void\n")
+    told("a post with zeros in front", ("post", "--year", 1, path, "0020", "0120"), "void\n")
     for column, post in ((21, 0), (0, 121), (2**32, 0), (0, 2**32), (2**64 - 1, 0), (0, 2**64 - 1)):
-        told(f"post {column} {post}", ("post", path, column, post), errors=f"dted: {path}: {OFF_GRID}\n", status=1)
+        told(f"post {column} {post}", ("post", "--year", 1, path, column, post), errors=f"dted: {path}: {OFF_GRID}\n", status=1)
     for word in ("-1", "+1", " 1", "1 ", "1.0", "0x1", "", "x", "1\n", str(2**64), "9" * 400):
         shown = word.replace("\n", "?")
         for words in ((word, 0), (0, word)):
