@@ -10,14 +10,14 @@ import ctypes
 import os
 import sys
 
-# as dted.h has them
-OK, VOID, DEGREE, LONGEST_CELL = 0, -32767, 36000, 25981042
+# as dted.h has them; the year 2 is that of new deliveries
+OK, VOID, YEAR_2, DEGREE, LONGEST_CELL = 0, -32767, 2, 36000, 25981042
 
 
 def load(path):
     """The calls that are used. An answer, a struct of one 64-bit number, comes back as the number itself."""
     library = ctypes.CDLL(path)
-    cell = [ctypes.c_char_p, ctypes.c_size_t]
+    cell = [ctypes.c_uint32, ctypes.c_char_p, ctypes.c_size_t]
     library.dted_intake.argtypes = cell
     library.dted_position.argtypes = cell + [ctypes.c_int64, ctypes.c_int64]
     library.dted_intake.restype = library.dted_position.restype = ctypes.c_uint64
@@ -44,8 +44,8 @@ def tenths(text):
 
 def look_up(library, cell, latitude, longitude):
     """Judges every column, then reads the post nearest the position: the answer of the first call that refuses, or of the last."""
-    answer = library.dted_intake(cell, len(cell))
-    return answer if number(answer) != OK else library.dted_position(cell, len(cell), latitude, longitude)
+    answer = library.dted_intake(YEAR_2, cell, len(cell))
+    return answer if number(answer) != OK else library.dted_position(YEAR_2, cell, len(cell), latitude, longitude)
 
 
 def words(answer):

@@ -9,6 +9,9 @@
 
 #include <string.h>
 
+/* The rule year of every call on a cell: a host that reads deliveries from before it names DTED_YEAR_1 for those. */
+enum { YEAR = DTED_YEAR_2 };
+
 /* One line for each item; its name goes by its number, one more than its index. */
 static void print_items(const int64_t *items) {
     for (int i = 0; i < DTED_ITEMS; i++) {
@@ -26,7 +29,7 @@ static void print_items(const int64_t *items) {
 
 /* One post, as column, number and height. */
 static int print_post(const uint8_t *cell, size_t length, uint64_t column, uint64_t post) {
-    dted_answer answer = dted_post(cell, length, column, post);
+    dted_answer answer = dted_post(YEAR, cell, length, column, post);
     if (dted_number(answer) != DTED_OK)
         return refused("post", answer);
     printf("  column %4" PRIu64 ", post %4" PRIu64 ": ", column, post);
@@ -40,7 +43,7 @@ static int print_post(const uint8_t *cell, size_t length, uint64_t column, uint6
 /* The post nearest the middle of the cell, found by its position in tenths of arc-seconds. */
 static int print_middle(const uint8_t *cell, size_t length, const int64_t *items) {
     int64_t latitude = items[DTED_LATITUDE] * DTED_DEGREE + DTED_DEGREE / 2, longitude = items[DTED_LONGITUDE] * DTED_DEGREE + DTED_DEGREE / 2;
-    dted_answer answer = dted_position(cell, length, latitude, longitude);
+    dted_answer answer = dted_position(YEAR, cell, length, latitude, longitude);
     if (dted_number(answer) != DTED_OK)
         return refused("position", answer);
     return print_post(cell, length, dted_position_column(answer), dted_position_post(answer));
@@ -49,7 +52,7 @@ static int print_middle(const uint8_t *cell, size_t length, const int64_t *items
 /* Judges the cell, and prints its description, its four corners and the post in its middle. */
 static int judge(const char *name, const uint8_t *cell, size_t length) {
     int64_t items[DTED_ITEMS];
-    dted_answer answer = dted_intake(cell, length);
+    dted_answer answer = dted_intake(YEAR, cell, length);
     if (dted_number(answer) != DTED_OK)
         return refused(name, answer);
     uint64_t east = dted_columns(answer) - 1, north = dted_posts(answer) - 1;
@@ -72,7 +75,7 @@ static int correct(uint8_t *cell, size_t length, char **arguments) {
         return TROUBLE;
     if (strcmp(arguments[2], "void") != 0 && !is_number(arguments[2], &height))
         return TROUBLE;
-    dted_answer answer = dted_edit(cell, length, (uint64_t)column, (uint64_t)post, height);
+    dted_answer answer = dted_edit(YEAR, cell, length, (uint64_t)column, (uint64_t)post, height);
     if (dted_number(answer) != DTED_OK)
         return refused("correction", answer);
     printf("corrected:\n");

@@ -68,7 +68,7 @@ static int make(const char *name, const int64_t *items, dted_answer grid) {
     uint8_t *heights = make_grid(grid, &bytes), *cell = malloc(length);
     int status = TROUBLE;
     if (heights && cell) {
-        dted_answer answer = dted_write(cell, length, items, heights, bytes);
+        dted_answer answer = dted_write(DTED_YEAR_2, cell, length, items, heights, bytes);
         status = dted_number(answer) == DTED_OK ? write_file(name, cell, length) : refused(name, answer);
     } else {
         perror(name);

@@ -6,6 +6,9 @@ needed() { # PROGRAM
     readelf -dW "$1" | sed -n 's/.*(NEEDED).*\[\(libdted.*\)\]/\1/p'
 }
 
+# What year 2 says of a shipped cell of an older delivery.
+void_refused='refused 6: a post word is not allowed (offset 8756)'
+
 # Runs built examples on shipped cells.
 run_examples() { # WHAT FOLDER
     local out
@@ -17,6 +20,9 @@ run_examples() { # WHAT FOLDER
     out=$(tools/x86-64 "$2/judge" cells/wrong_first_checksum.dt0 2>&1)
     same "$1: judge of a wrong checksum, its status" 1 $?
     same "$1: judge of a wrong checksum" 'cells/wrong_first_checksum.dt0: refused 5: a checksum differs (offset 3678)' "$out"
+    out=$(tools/x86-64 "$2/judge" cells/void_in_partial.dt0 2>&1)
+    same "$1: judge of an old cell, its status" 1 $?
+    same "$1: judge of an old cell" "cells/void_in_partial.dt0: $void_refused" "$out"
     tools/x86-64 "$2/write" "$work/written.dt0"
     good "$1: the written cell is the shipped one" cmp "$work/written.dt0" cells/terrain.dt0
     rm -f "$work/corrected.dt0" "$work/written.dt0"
@@ -100,6 +106,11 @@ good 'the README shows what its example prints, twice' [ "$(wc -l <"$work/shown"
 while read -r cell line; do
     same "the README's example on $cell" "$line" "$(tools/x86-64 "$work/readme" <"$cell")"
 done <"$work/shown"
+same "the README's example on an old cell" "$void_refused" "$(tools/x86-64 "$work/readme" <cells/void_in_partial.dt0)"
+sed -n '/^\.Sh EXAMPLES/,/^\.Ed/{/^\.Bd/,/^\.Ed/{/^\./!{s/\\e/\\/g;p}}}' man/dted.3 >"$work/manual.c"
+good "dted.3's example" build "$cc" dted "$work/manual.c" "$work/manual" &&
+    same "dted.3's example, run" "486 $void_refused" \
+        "$(tools/x86-64 "$work/manual" <cells/terrain.dt0) $(tools/x86-64 "$work/manual" <cells/void_in_partial.dt0 2>&1)"
 good "the README's example, shared" build "$cc" dted-shared "$work/readme.c" "$work/readme" &&
     same "the README's example, shared, run" 486 "$(LD_LIBRARY_PATH=$there/lib tools/x86-64 "$work/readme" <cells/terrain.dt0)"
 # shellcheck disable=SC2046
@@ -131,7 +142,12 @@ if [ "$(uname -m)" = x86_64 ]; then
     same 'height.py' '486, status 0' "$(height cells/terrain.dt0 46.5 7.5)"
     same 'height.py, below the sea' '-60, status 0' "$(height cells/north_89.dt0 89 0)"
     same 'height.py, the word 8000' '0, status 0' "$(height cells/negative_zero.dt0 89 0)"
-    same 'height.py, a void' 'void, status 0' "$(height cells/void_in_partial.dt0 90 1)"
+    python3 -B -c 'import sys
+sys.path.insert(0, "tools")
+from second_writer import repeated, with_texts, with_word
+sys.stdout.buffer.write(with_word(with_texts(repeated(2, 89, 0), "42", 369), 7214, 600, 3600, 0xFFFF))' >"$work/void.dt2"
+    same 'height.py, a void' 'void, status 0' "$(height "$work/void.dt2" 90 1)"
+    same 'height.py, an old cell' 'refused 6 8756, status 1' "$(height cells/void_in_partial.dt0 90 1)"
     same 'height.py, a wrong checksum in another column' 'refused 5 3678, status 1' "$(height cells/wrong_first_checksum.dt0 0 -179.5)"
     same 'height.py, off the cell' 'refused 8 0, status 1' "$(height cells/terrain.dt0 1e300 7.5)"
     same 'height.py, no number' 'why, status 2' "$(height cells/terrain.dt0 north 7.5)"
@@ -142,12 +158,16 @@ if [ "$(uname -m)" = x86_64 ]; then
 fi
 
 # ---- what the README shows of the tool, run in its order ----
+# The commands of a session, each with what it prints.
+as_shown() {
+    (cd "$work/as_shown" && PATH=$there/bin:$PATH &&
+        sed -n 's/^\$ //p' "$work/session" | while read -r line; do echo "\$ $line" && bash -c "$line"; done 2>&1)
+}
 if [ "$(uname -m)" = x86_64 ]; then
     mkdir "$work/as_shown" && cp -r cells "$work/as_shown" && cp cells/terrain.dt0 "$work/as_shown/copy.dt0"
     sed -n '/^## The tool$/,/^## /s/^    //p' README.md >"$work/session"
-    same "the README's lines of the tool" "$(cat "$work/session")" "$(cd "$work/as_shown" && PATH=$there/bin:$PATH &&
-        sed -n 's/^\$ //p' "$work/session" | while read -r line; do echo "\$ $line" && bash -c "$line"; done 2>&1)"
-    good 'the README shows six commands' [ "$(grep -c '^\$ dted' "$work/session")" -eq 6 ]
+    same "the README's lines of the tool" "$(cat "$work/session")" "$(as_shown)"
+    good 'the README shows eight commands' [ "$(grep -c '^\$ dted' "$work/session")" -eq 8 ]
 fi
 
 # ---- manual pages ----
@@ -166,6 +186,12 @@ sys.stdout.buffer.write(with_texts(bytes(headers(1, int(sys.argv[1]), 7)), sys.a
 }
 same "dted.3's examples of header fields" "$(sed -n 's/^\.It Li \(refused .*\)/\1/p' man/dted.3)" \
     "$(judged 46 20 003O; judged 46 167 '7 '; judged 46 139 DTED0; judged 47 265 460000.0N; judged 52 47 1201; judged 46 361 0121)"
+if [ "$(uname -m)" = x86_64 ]; then
+    cp cells/void_in_partial.dt0 "$work/as_shown/old.dt0"
+    sed -n '/^\$ dted-intake < old/,/^\.Ed/{/^\.Ed/!p}' man/dted-intake.1 >"$work/session"
+    same "dted-intake.1's lines of an old cell" "$(cat "$work/session")" "$(as_shown)"
+    good "dted-intake.1 shows two commands" [ "$(grep -c '^\$ dted' "$work/session")" -eq 2 ]
+fi
 same "functions whose page is not the library's" '' "$(cd "$there/share/man/man3" && grep -LFx '.so man3/dted.3' dted_*)"
 take_away 'uninstall'
 
