@@ -17,6 +17,7 @@ good 'the shared library and the tool' make shared tool
 shared=target/shared/libdted.so.$version
 same 'the shared library has the calls of the header, and no other name' "$calls" "$(names "$shared" -D --defined-only)"
 same 'the shared library needs memset alone' memset "$(names "$shared" -D -u)"
+same 'its name in the README' "$shared" "$(grep -oE 'target/shared/libdted\.so[0-9.]*' README.md)"
 same 'its soname' "libdted.so.$soversion" "$(readelf -dW "$shared" | sed -n 's/.*(SONAME).*\[\(.*\)\]/\1/p')"
 same 'its links' "libdted.so.$soversion libdted.so.$version" \
     "$(readlink target/shared/libdted.so) $(readlink "target/shared/libdted.so.$soversion")"

@@ -54,6 +54,16 @@ def stored_cells(intake):
     same("status of all", (b"", 1), (done.stderr, done.returncode))
 
 
+def stored_under_1():
+    """Under year 1 each stored cell has the line beside it: NAME.year1, or where there is none NAME.line."""
+    cells = sorted((ROOT / "cells").glob("*.dt?"))
+    lines = run("check", "--year", 1, *cells).stdout.decode().splitlines()
+    same("lines and cells, year 1", len(cells), len(lines))
+    for cell, line in zip(cells, lines):
+        told_of = next(path for path in (cell.with_suffix(".year1"), cell.with_suffix(".line")) if path.exists())
+        same(f"{cell.name}, year 1", (str(cell), told_of.read_text().strip()), (line.partition(": ")[0], bare(line.partition(": ")[2])))
+
+
 def scope_fields():
     """The header fields of docs/SCOPE.md: offsets of the first and the last byte, and record with positions."""
     rows = re.findall(r"^\| H\d.*? \| (UHL|DSI|ACC) \| ([^|]*) \|", (ROOT / "docs/SCOPE.md").read_text(), re.M)
@@ -178,6 +188,7 @@ def test(folder, intake):
     numbers = {int(line.split()[1].strip(":")) for *_, line in (*LINES, *TEXTS) if line != GOOD}
     same("numbers that a file can cause", {1, 3, 4, 5, 6, 7, 21, 22, 23}, numbers)
     stored_cells(intake)
+    stored_under_1()
     fields(folder)
     columns_of_levels(folder)
     names(folder)
