@@ -26,11 +26,9 @@ static void put_column(char *text, size_t room, const struct cell *cell, dted_an
         snprintf(text + length, room - (size_t)length, ", post %" PRIu64, (place % size - DTED_PREAMBLE_BYTES) / 2);
 }
 
-/* Whether year 1 takes a cell that year 2 refuses for a word: then it is for its voids alone, as old cells have them. */
+/* Whether year 1 takes a cell that is refused for a word: then it is so for its voids alone, as old cells have them. */
 static bool is_of_year_1(const struct cell *cell, dted_answer answer) {
-    if (cell->year != DTED_YEAR_2 || dted_number(answer) != DTED_WORD)
-        return false;
-    return dted_number(dted_intake(DTED_YEAR_1, cell->bytes, cell->length)) == DTED_OK;
+    return dted_number(answer) == DTED_WORD && dted_number(dted_intake(DTED_YEAR_1, cell->bytes, cell->length)) == DTED_OK;
 }
 
 const char *refusal_words(const struct cell *cell, dted_answer answer) {
