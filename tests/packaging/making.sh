@@ -25,7 +25,7 @@ chmod +x "$work/bin/rt"
 in_tree() { # COMMAND..
     local status=0
     : >"$work/asked"
-    (cd "$tree" && PATH=$work/bin:$PATH && unset ARCHIVE && "$@") || status=$?
+    (cd "$tree" && PATH=$work/bin:$PATH && unset ARCHIVE INTAKE && "$@") || status=$?
     asked=$(paste -sd, "$work/asked")
     return $status
 }
