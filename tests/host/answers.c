@@ -52,6 +52,7 @@ static const struct taken {
 } all_taken[] = {
     {"a refusal", 0x0500000000000E5E, {5, 3678, 0, 0, 0, 0, 0, NO_HEIGHT, 0, 0}},
     {"a refusal of a header field", 0x1700000000000169, {23, 361, 0, 0, 0, 0, 0, NO_HEIGHT, 0, 0}},
+    {"a refusal of the last year", 0x11000000FFFFFFFF, {17, 4294967295, 0, 0, 0, 0, 0, NO_HEIGHT, 0, 0}},
     {"a refusal at 0", 0x0800000000000000, {8, 0, 0, 0, 0, 0, 0, NO_HEIGHT, 0, 0}},
     {"a refusal at the last place", 0x0CFFFFFFFFFFFFFF, {12, 0xFFFFFFFFFFFFFF, 0, 0, 0, 0, 0, NO_HEIGHT, 0, 0}},
     {"the last number", 0xFFFFFFFFFFFFFFFF, {255, 0xFFFFFFFFFFFFFF, 0, 0, 0, 0, 0, NO_HEIGHT, 0, 0}},

@@ -11,6 +11,7 @@
 const char *volatile both_calling = "nothing";
 
 static enum side side_now = AT_START;
+static uint32_t year_now = DTED_YEAR_2;
 static struct lent cell_pages, out_pages, grid_pages, item_pages;
 
 /* The second one's bytes: of the exact length, so that a checked build sees it reach outside, too. */
@@ -45,6 +46,10 @@ void both_side(enum side side) {
     side_now = side;
 }
 
+void both_year(uint32_t year) {
+    year_now = year;
+}
+
 /* ---- comparing ---- */
 
 /* Whatever the second one says: a number that is given at all, and of a header field one that it can give, at a place in it. */
@@ -56,13 +61,23 @@ static bool is_told(dted_answer answer) {
     return f < CELL_FIELDS && (number == DTED_FIELD_IMPOSSIBLE || number == cell_fields[f].besides);
 }
 
-static dted_answer same_answer(const char *call, dted_answer library, uint64_t second) {
+static dted_answer same(const char *call, dted_answer library, uint64_t second, bool told) {
     both_calling = "nothing";
     if (library.bits != second)
         differ(call, "the answer", 0, library.bits, second);
-    if (!is_told(library))
+    if (!told)
         differ(call, "a number that is not given, or not there", 0, library.bits, second);
     return library;
+}
+
+static dted_answer same_answer(const char *call, dted_answer library, uint64_t second) {
+    return same(call, library, second, is_told(library));
+}
+
+/* Of a call that names the year: 17 where it is unknown, and there alone. */
+static dted_answer same_in_year(const char *call, dted_answer library, uint64_t second) {
+    bool known = year_now == 1 || year_now == 2;
+    return same(call, library, second, known ? is_told(library) : library.bits == (UINT64_C(17) << 56 | year_now));
 }
 
 static void same_bytes(const char *call, const char *what, const uint8_t *library, const uint8_t *second, size_t length) {
@@ -108,8 +123,8 @@ static const uint8_t *cell_for_second(void) {
 
 dted_answer both_intake(void) {
     const char *call = "dted_intake";
-    dted_answer answer = dted_intake(cell_to_read(call), cell_pages.length);
-    return same_answer(call, answer, second_intake(cell_for_second(), cell_copy.length));
+    dted_answer answer = dted_intake(year_now, cell_to_read(call), cell_pages.length);
+    return same_in_year(call, answer, second_intake(year_now, cell_for_second(), cell_copy.length));
 }
 
 dted_answer both_describe(int64_t *items) {
@@ -132,25 +147,25 @@ dted_answer both_describe(int64_t *items) {
 
 dted_answer both_post(uint64_t column, uint64_t post) {
     const char *call = "dted_post";
-    dted_answer answer = dted_post(cell_to_read(call), cell_pages.length, column, post);
-    return same_answer(call, answer, second_post(cell_for_second(), cell_copy.length, column, post));
+    dted_answer answer = dted_post(year_now, cell_to_read(call), cell_pages.length, column, post);
+    return same_in_year(call, answer, second_post(year_now, cell_for_second(), cell_copy.length, column, post));
 }
 
 dted_answer both_position(int64_t latitude, int64_t longitude) {
     const char *call = "dted_position";
-    dted_answer answer = dted_position(cell_to_read(call), cell_pages.length, latitude, longitude);
-    return same_answer(call, answer, second_position(cell_for_second(), cell_copy.length, latitude, longitude));
+    dted_answer answer = dted_position(year_now, cell_to_read(call), cell_pages.length, latitude, longitude);
+    return same_in_year(call, answer, second_position(year_now, cell_for_second(), cell_copy.length, latitude, longitude));
 }
 
 dted_answer both_edit(uint64_t column, uint64_t post, int64_t height) {
     const char *call = "dted_edit";
     lent_protect(&cell_pages, false);
     both_calling = call;
-    dted_answer answer = dted_edit(cell_is_null ? NULL : cell_pages.bytes, cell_pages.length, column, post, height);
+    dted_answer answer = dted_edit(year_now, cell_is_null ? NULL : cell_pages.bytes, cell_pages.length, column, post, height);
     if (dted_number(answer) != DTED_OK)
         same_bytes(call, "a byte of a refused call", cell_pages.bytes, cell_copy.bytes, cell_copy.length);
     uint8_t *copy = cell_is_null ? NULL : cell_copy.bytes;
-    same_answer(call, answer, second_edit(copy, cell_copy.length, column, post, height));
+    same_in_year(call, answer, second_edit(year_now, copy, cell_copy.length, column, post, height));
     same_bytes(call, "a byte of the cell", cell_pages.bytes, cell_copy.bytes, cell_copy.length);
     same_margin(call, &cell_pages);
     return answer;
@@ -199,9 +214,9 @@ dted_answer both_write(size_t room, bool null_out, const int64_t *items, const u
     memcpy(lent_items, items, sizeof *items * BOTH_ITEMS);
     lent_protect(&item_pages, true);
     both_calling = call;
-    dted_answer answer = dted_write(out, room, lent_items, lent_grid, bytes);
+    dted_answer answer = dted_write(year_now, out, room, lent_items, lent_grid, bytes);
     same_before(call, answer);
-    same_answer(call, answer, second_write(out == NULL ? NULL : out_copy.bytes, room, items, grid, bytes));
+    same_in_year(call, answer, second_write(year_now, out == NULL ? NULL : out_copy.bytes, room, items, grid, bytes));
     same_output(call);
     return answer;
 }

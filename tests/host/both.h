@@ -1,8 +1,9 @@
 /* both.h - each call made twice, of the library and of the second reader and writer, on the same numbers and bytes.
  *
  * The library's bytes stand between pages that cannot be touched. Answers, filled arrays and every lent byte are compared, and
- * after a refused call also with the bytes before it. Numbers that no call gives, and places of 21 to 23 outside a field that can
- * give them, are differences, too. A difference is told to differ(), which the program defines.
+ * after a refused call also with the bytes before it. Numbers that no call gives, places of 21 to 23 outside a field that can
+ * give them, and any answer but 17 at the year where the year is unknown are differences, too. A difference is told to differ(),
+ * which the program defines.
  */
 #ifndef BOTH_H
 #define BOTH_H
@@ -25,6 +26,9 @@ void both_open(void);
 
 /* On which side the pages that cannot be touched stand, for what is lent from now on. */
 void both_side(enum side side);
+
+/* The rule year that is named in every call from now on that takes one. */
+void both_year(uint32_t year);
 
 /* Lends a copy of these bytes to the calls that follow; null pointers are lent as they are. */
 void both_lend(const uint8_t *cell, size_t length);

@@ -91,7 +91,7 @@ static void put_height(uint8_t *grid, size_t index, int64_t height) {
 /* The kinds of ground: limits only, plateaus of limits, anything, a slope, the sea with islands, and, where it may be, nothing known
  * at all. */
 void cell_heights(struct random *random, bool voids, uint8_t *grid, size_t count) {
-    uint64_t kind = random_below(random, voids ? 6 : 5);
+    uint64_t kind = random_below(random, voids ? 6 : 5), apart = random_one_in(random, 2) ? 16 : 400;
     int64_t height = edge_height(random);
     for (size_t i = 0; i < count; i++) {
         uint64_t drawn = random_next(random);
@@ -103,7 +103,7 @@ void cell_heights(struct random *random, bool voids, uint8_t *grid, size_t count
             height = height < 9000 ? height + 1 : -12000;
         else if (kind == 4)
             height = drawn % 4 == 0 ? edge_height(random) : 0;
-        bool hole = voids && (kind == 5 || (drawn >> 32) % 16 == 0);
+        bool hole = voids && (kind == 5 || (drawn >> 32) % apart == 0);
         put_height(grid, i, hole ? CELL_VOID : height);
     }
 }
@@ -179,7 +179,19 @@ static void negative_zeros(struct random *random, struct cell *cell, size_t made
     }
 }
 
-void cell_make(struct random *random, const int64_t *items, size_t columns_made, struct cell *cell) {
+size_t cell_columns_made(const struct cell *cell) {
+    return cell->grid_bytes / (2 * cell->posts);
+}
+
+size_t cell_first_void(const struct cell *cell, size_t column) {
+    const uint8_t *heights = cell->grid + 2 * column * cell->posts;
+    size_t p = 0;
+    while (p < cell->posts && (heights[2 * p] != 0x80 || heights[2 * p + 1] != 0x01))
+        p++;
+    return p;
+}
+
+void cell_make_with(struct random *random, const int64_t *items, bool voids, size_t columns_made, struct cell *cell) {
     memcpy(cell->items, items, sizeof cell->items);
     set_sizes(cell);
     size_t made = columns_made < cell->columns ? columns_made : cell->columns;
@@ -189,7 +201,7 @@ void cell_make(struct random *random, const int64_t *items, size_t columns_made,
     cell->grid_bytes = 2 * made * cell->posts;
     cell->grid = grown(cell->grid, cell->grid_bytes + 2);
     memset(cell->grid + cell->grid_bytes, 0, 2);
-    cell_heights(random, items[12] != 0, cell->grid, made * cell->posts);
+    cell_heights(random, voids, cell->grid, made * cell->posts);
     cell->length = CELL_HEADERS + made * cell->column_bytes;
     make_room(cell, cell->length);
     cell_make_headers(random, items, cell->bytes);
@@ -197,6 +209,11 @@ void cell_make(struct random *random, const int64_t *items, size_t columns_made,
         second_write_column(column_of(cell, k), cell->column_bytes, (uint64_t)items[0], k, cell->grid + 2 * k * cell->posts,
                             2 * cell->posts);
     negative_zeros(random, cell, made);
+}
+
+void cell_make(struct random *random, const int64_t *items, size_t columns_made, struct cell *cell) {
+    bool voids = items[12] != 0 ? !random_one_in(random, 3) : random_one_in(random, 12);
+    cell_make_with(random, items, voids, columns_made, cell);
 }
 
 void cell_free(struct cell *cell) {

@@ -38,7 +38,7 @@ struct cell {
     size_t grid_bytes;
     uint8_t *bytes;
     size_t length, room;
-    bool whole;            /* nothing was damaged: it is accepted, and its posts are the grid's */
+    bool whole;            /* nothing was damaged: where its voids are allowed it is accepted, and its posts are the grid's */
     char damage[96];       /* in words */
     size_t damaged_column; /* one worth a look */
 };
@@ -46,13 +46,22 @@ struct cell {
 /* Items in range, at the edges of zones, hemispheres and ranges half of the time. */
 void cell_items(struct random *random, int64_t level, int64_t *items);
 
-/* Heights for `count` posts, at the limits at times and at times mostly 0, with voids where they are allowed. */
+/* Heights for `count` posts, at the limits at times and at times mostly 0, with many voids or a few where they are wanted. */
 void cell_heights(struct random *random, bool voids, uint8_t *grid, size_t count);
 
 /* A cell of these items, cut after `columns_made` columns (SIZE_MAX: whole). Free bytes and free letters are random at times.
  * Posts at height 0 have the word 8000 at times, so that a column is not always what a writer makes of its heights.
  * The memory of an earlier cell is used again: start from a zeroed struct. */
+void cell_make_with(struct random *random, const int64_t *items, bool voids, size_t columns_made, struct cell *cell);
+
+/* The same; of partial cells one in three is without voids, and of complete ones one in twelve has them. */
 void cell_make(struct random *random, const int64_t *items, size_t columns_made, struct cell *cell);
+
+/* The columns that were made, before any damage. */
+size_t cell_columns_made(const struct cell *cell);
+
+/* The first post of the column that is void, or the number of posts where none is. */
+size_t cell_first_void(const struct cell *cell, size_t column);
 
 /* Headers alone, of items in range. Free bytes and free letters are random at times. */
 void cell_make_headers(struct random *random, const int64_t *items, uint8_t *headers);

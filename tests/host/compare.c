@@ -5,10 +5,12 @@
 #define _XOPEN_SOURCE 700 /* sigaction, sigaltstack, sigsetjmp, alarm */
 #include "compare.h"
 
+#include "asked.h"
 #include "both.h"
 #include "cells.h"
 #include "dted.h"
 #include "second.h"
+#include "years.h"
 
 #if defined(CHECKED) && !defined(__SANITIZE_ADDRESS__)
 #error "the checked program is built without the address checker"
@@ -29,6 +31,7 @@
 #define CASES 24000
 
 unsigned sides = 2;
+uint32_t case_year = DTED_YEAR_2;
 
 static uint64_t seed, case_number, passed, failed, reports;
 static bool case_differs;
@@ -95,6 +98,7 @@ void run_case(void (*body)(const void *), const void *context) {
     case_number++;
     case_differs = false;
     name_case("not named");
+    both_year(case_year);
     if (sides == 1)
         both_side(case_number % 2 == 0 ? AT_START : AT_END);
     alarm(MOST_SECONDS);
@@ -111,82 +115,44 @@ void run_case(void (*body)(const void *), const void *context) {
         passed++;
 }
 
-/* ---- numbers for the calls ---- */
-
-static uint64_t any_column(struct random *random, const struct cell *cell) {
-    switch (random_below(random, 8)) {
-    case 0: return random_odd_index(random, random_below(random, cell->columns));
-    case 1: return cell->columns - 1 + random_below(random, 2);
-    case 2: return 0;
-    case 3: return cell->damaged_column;
-    case 4: return (cell->length - (cell->length < CELL_HEADERS ? cell->length : CELL_HEADERS)) / cell->column_bytes;
-    default: return random_below(random, cell->columns);
-    }
-}
-
-static uint64_t any_post(struct random *random, const struct cell *cell) {
-    switch (random_below(random, 8)) {
-    case 0: return random_odd_index(random, random_below(random, cell->posts));
-    case 1: return cell->posts - 1 + random_below(random, 2);
-    case 2: return 0;
-    default: return random_below(random, cell->posts);
-    }
-}
-
-/* A way along an edge of `count` marks: on a mark, about half way between two, at an end, near mark `favoured`, or far out. */
-static int64_t any_way(struct random *random, size_t count, size_t favoured) {
-    int64_t interval = 36000 / (int64_t)(count - 1), mark = (int64_t)random_below(random, count);
-    switch (random_below(random, 8)) {
-    case 0: return random_between(random, -2, 2);
-    case 1: return 36000 + random_between(random, -2, 2);
-    case 2: return mark * interval;
-    case 3: case 4: return mark * interval + interval / 2 + random_between(random, -1, 1);
-    case 5: return (int64_t)favoured * interval + random_between(random, -interval / 2, interval / 2);
-    default: return random_between(random, 0, 36000);
-    }
-}
-
-static int64_t any_longitude(struct random *random, const struct cell *cell) {
-    int64_t west = cell->items[DTED_LONGITUDE] * 36000;
-    if (random_one_in(random, 12))
-        return random_odd_number(random, west);
-    if (random_one_in(random, 12))
-        return random_one_in(random, 2) ? 6480000 : -6480000;
-    return west + any_way(random, cell->columns, cell->damaged_column);
-}
-
-static int64_t any_latitude(struct random *random, const struct cell *cell) {
-    int64_t south = cell->items[DTED_LATITUDE] * 36000;
-    if (random_one_in(random, 12))
-        return random_odd_number(random, south);
-    return south + any_way(random, cell->posts, 0);
-}
-
-static int64_t any_height(struct random *random) {
-    switch (random_below(random, 8)) {
-    case 0: return DTED_VOID;
-    case 1: return random_odd_number(random, random_between(random, -12000, 9000));
-    case 2: return random_between(random, 8999, 9001);
-    case 3: return random_between(random, -12001, -11999);
-    case 4: return 0;
-    default: return random_between(random, -12000, 9000);
-    }
-}
-
 static int64_t height_made(const struct cell *cell, uint64_t column, uint64_t post) {
     const uint8_t *word = cell->grid + 2 * (column * cell->posts + post);
     int64_t value = word[0] * 256 + word[1];
     return value < 0x8000 ? value : value - 0x10000;
 }
 
+/* ---- what is due of cells as they were made ---- */
+
+static bool voids_allowed(const struct cell *cell) {
+    return cell->items[DTED_PARTIAL] != 0 && (case_year == 1 || cell->items[DTED_LEVEL] == 2);
+}
+
+/* Of one column: 0 where it is good, 3 where it was not made, 6 where it has a void that is not allowed. */
+static uint64_t due_of_column(const struct cell *cell, size_t column) {
+    size_t start = CELL_HEADERS + column * cell->column_bytes;
+    if (column >= cell_columns_made(cell))
+        return refusal(3, start);
+    size_t post = voids_allowed(cell) ? cell->posts : cell_first_void(cell, column);
+    return post < cell->posts ? refusal(6, start + 8 + 2 * post) : 0;
+}
+
+static uint64_t due_of_intake(const struct cell *cell) {
+    uint64_t due = 0;
+    for (size_t k = 0; k < cell->columns && due == 0; k++)
+        due = due_of_column(cell, k);
+    return due != 0 ? due : second_grid((uint64_t)cell->items[DTED_LEVEL], cell->items[DTED_LATITUDE]);
+}
+
+static bool is_accepted(const struct cell *cell) {
+    return cell->whole && due_of_intake(cell) >> 56 == 0;
+}
+
 /* ---- cells, judged and read ---- */
 
 static void expect_whole(const struct cell *cell, dted_answer intake, const int64_t *items) {
-    expect("intake: number", dted_number(intake), 0);
-    expect("intake: level", dted_level(intake), (uint64_t)cell->items[DTED_LEVEL]);
-    expect("intake: columns", dted_columns(intake), cell->columns);
-    expect("intake: posts", dted_posts(intake), cell->posts);
-    expect("intake: length", dted_cell_length(intake), cell->length);
+    expect("intake", intake.bits, due_of_intake(cell));
+    if (dted_number(intake) == 0)
+        expect("intake: length", dted_cell_length(intake), cell->length);
     for (int i = 0; i < CELL_ITEMS; i++)
         expect("an item as it was made", (uint64_t)items[i], (uint64_t)cell->items[i]);
 }
@@ -196,7 +162,7 @@ static void look_up(struct random *random, const struct cell *cell) {
         uint64_t column = any_column(random, cell), post = any_post(random, cell);
         dted_answer answer = both_post(column, post);
         if (cell->whole && column < cell->columns && post < cell->posts)
-            expect("post", dted_number(answer), 0);
+            expect("post", dted_number(answer) == 0 ? 0 : answer.bits, due_of_column(cell, column));
         if (cell->whole && dted_number(answer) == 0)
             expect("a height as it was made", (uint64_t)dted_height(answer), (uint64_t)height_made(cell, column, post));
     }
@@ -232,6 +198,7 @@ static void judge_and_read(struct random *random, const struct cell *cell) {
     for (int i = 0; i < 4; i++)
         both_edit(any_column(random, cell), any_post(random, cell), any_height(random));
     both_intake();
+    years_unknown(random, cell);
 }
 
 /* One replaced byte of a column is refused, with a place in that column. */
@@ -329,7 +296,7 @@ static void edit_made(struct cell *cell, uint64_t column, uint64_t post, int64_t
 static void expect_edited(const struct cell *cell) {
     uint8_t afresh[DTED_LONGEST_COLUMN];
     expect("the old bytes, edited words and checksums", memcmp(both_cell(), cell->bytes, cell->length) != 0, 0);
-    for (size_t k = 0; k < cell->columns; k++) {
+    for (size_t k = 0; k < cell_columns_made(cell); k++) {
         const uint8_t *column = both_cell() + CELL_HEADERS + k * cell->column_bytes;
         uint64_t answer = second_write_column(afresh, sizeof afresh, (uint64_t)cell->items[DTED_LEVEL], k,
                                               cell->grid + 2 * k * cell->posts, 2 * cell->posts);
@@ -346,22 +313,29 @@ static void zeros_case(const void *context) {
     expect("edits beside such posts", edits_beside_zeros > cases / 100, 1);
 }
 
+static uint64_t due_of_edit(const struct cell *cell, uint64_t column, uint64_t post, int64_t height) {
+    bool allowed = (height >= -12000 && height <= 9000) || (voids_allowed(cell) && height == DTED_VOID);
+    if (column >= cell->columns || post >= cell->posts)
+        return refusal(8, 0);
+    uint64_t due = due_of_column(cell, column);
+    return due != 0 ? due : allowed ? 0 : refusal(11, 0);
+}
+
+/* A sequence of edits that all name one year. */
 static void edit_often(struct random *random, struct cell *cell, int edits) {
-    bool voids = cell->items[DTED_PARTIAL] != 0;
     both_lend(cell->bytes, cell->length);
     for (int i = 0; i < edits; i++) {
         uint64_t column = any_column(random, cell), post = any_post(random, cell);
         int64_t height = any_height(random);
-        bool allowed = (height >= -12000 && height <= 9000) || (voids && height == DTED_VOID);
-        uint64_t due = column >= cell->columns || post >= cell->posts ? 8 : allowed ? 0 : 11;
-        expect("edit", both_edit(column, post, height).bits, refusal(due, 0));
+        uint64_t due = due_of_edit(cell, column, post, height);
+        expect("edit", both_edit(column, post, height).bits, due);
         if (due == 0) {
             edit_made(cell, column, post, height);
             expect("an edited height", (uint64_t)dted_height(both_post(column, post)), (uint64_t)height);
         }
     }
     expect_edited(cell);
-    expect("intake after edits", dted_number(both_intake()), 0);
+    expect("intake after edits", both_intake().bits, due_of_intake(cell));
 }
 
 /* ---- writers ---- */
@@ -452,6 +426,10 @@ static void write_columns(struct random *random) {
 
 /* ---- cases from the seed ---- */
 
+static void years_case(const void *context) {
+    expect_years_seen(*(const uint64_t *)context);
+}
+
 enum kind { DAMAGED, WHOLE, EDITS, WRITE, COLUMNS };
 static const char *const kind_names[] = {"reading", "reading", "edits", "writing", "single columns"};
 
@@ -462,7 +440,8 @@ struct plan {
     bool whole_cell; /* and not some columns of it */
 };
 
-/* Six of ten cases are damaged cells. One in 60 is a whole cell of level 1, three in 6,000 of level 2: read, edited, written. */
+/* Six of ten cases are damaged cells. One in 60 is a whole cell of level 1, three in 6,000 of level 2: read, edited, written. One
+ * sequence of edits in two is of the front of a cell of level 1 or 2. */
 static struct plan plan_of(uint64_t number) {
     static const enum kind kinds[10] = {DAMAGED, EDITS, DAMAGED, WRITE, DAMAGED, WHOLE, DAMAGED, COLUMNS, DAMAGED, DAMAGED};
     struct plan plan = {number, kinds[number % 10], 0, true};
@@ -472,6 +451,9 @@ static struct plan plan_of(uint64_t number) {
         plan.level = 1;
     else if (plan.kind == DAMAGED && number % 4 == 0) {
         plan.level = number % 8 == 0 ? 1 : 2;
+        plan.whole_cell = false;
+    } else if (plan.kind == EDITS && number % 20 == 11) {
+        plan.level = number % 40 == 11 ? 1 : 2;
         plan.whole_cell = false;
     }
     return plan;
@@ -495,7 +477,7 @@ static void keep_cell(struct cell *to, const struct cell *from) {
 static void run_kind(enum kind kind, struct random random) {
     if (kind == DAMAGED || kind == WHOLE)
         judge_and_read(&random, &cell);
-    if (kind == WHOLE && cell.whole)
+    if (kind == WHOLE && is_accepted(&cell))
         replace_bytes(&random, &cell);
     if (kind == EDITS)
         edit_often(&random, &cell, cell.posts == 121 ? 40 : 12);
@@ -505,28 +487,40 @@ static void run_kind(enum kind kind, struct random random) {
         write_columns(&random);
 }
 
-/* The same case twice: the untouchable page stands before the lent bytes, then after them. */
+/* The cell of a case, as it is before the calls. */
+static void make_cell(struct random *random, const struct plan *plan) {
+    int64_t items[CELL_ITEMS];
+    cell_items(random, plan->level, items);
+    if (plan->kind == COLUMNS)
+        return;
+    cell_make(random, items, plan->whole_cell ? SIZE_MAX : random_below(random, 6), &cell);
+    if (plan->kind == DAMAGED)
+        cell_damage(random, &cell);
+    if (plan->kind == WRITE && random_one_in(random, 2))
+        spoil_heights(random, &cell);
+    keep_cell(&kept, &cell);
+}
+
+/* The same case twice: the untouchable page stands before the lent bytes, then after them. Of the two one is in year 1, now this and
+ * now that, and the other in year 2. */
 static void seeded_case(const void *context) {
     const struct plan *plan = context;
     struct random random = random_of_case(seed, plan->number);
-    int64_t items[CELL_ITEMS];
-    cell_items(&random, plan->level, items);
-    if (plan->kind != COLUMNS) {
-        cell_make(&random, items, plan->whole_cell ? SIZE_MAX : random_below(&random, 6), &cell);
-        if (plan->kind == DAMAGED)
-            cell_damage(&random, &cell);
-        if (plan->kind == WRITE && random_one_in(&random, 2))
-            spoil_heights(&random, &cell);
-        keep_cell(&kept, &cell);
-    }
-    for (int i = 0; i < 2; i++) {
-        name_case("level %d, %s, %s, at the pages' %s", (int)plan->level, kind_names[plan->kind],
-                  plan->kind == COLUMNS ? "no cell" : cell.damage, i == 0 ? "start" : "end");
+    make_cell(&random, plan);
+    for (unsigned i = 0; i < 2; i++) {
+        case_year = 1 + (i + plan->number / 10) % 2;
+        name_case("level %d, %s, %s, year %u, at the pages' %s", (int)plan->level, kind_names[plan->kind],
+                  plan->kind == COLUMNS ? "no cell" : cell.damage, (unsigned)case_year, i == 0 ? "start" : "end");
+        both_year(case_year);
         both_side(i == 0 ? AT_START : AT_END);
         if (i == 1 && plan->kind != COLUMNS)
             keep_cell(&cell, &kept);
         run_kind(plan->kind, random);
     }
+    if (plan->kind == DAMAGED || plan->kind == WHOLE)
+        years_on_cell(&random, &kept);
+    if (plan->kind == WRITE)
+        years_in_writer(&kept);
 }
 
 static uint64_t number_of(const char *text) {
@@ -551,15 +545,20 @@ int main(int count, char **texts) {
     run_word_cases();
     run_fixed_cases();
     run_literal_cases();
+    run_literal_year_cases();
+    run_stored_cases();
     for (uint64_t number = 0; number < cases; number++) {
         struct plan plan = plan_of(number);
         run_case(seeded_case, &plan);
     }
+    case_year = DTED_YEAR_2;
     for (size_t f = 0; f < CELL_FIELDS; f++)
         run_case(spoiled_field_case, &f);
     run_case(seen_case, NULL);
-    if (cases >= 100) /* fewer may not meet one */
+    if (cases >= 100) { /* fewer may not meet one */
         run_case(zeros_case, &cases);
+        run_case(years_case, &cases);
+    }
     cell_free(&cell);
     cell_free(&kept);
     printf("%" PRIu64 " passed, %" PRIu64 " failed\n", passed, failed);

@@ -19,11 +19,18 @@ uint64_t refusal(uint64_t number, uint64_t place);
 /* On how many sides of the pages the cases that need no seed are run: on both, or each on one alone, now this and now that. */
 extern unsigned sides;
 
+/* The rule year in which a case begins. */
+extern uint32_t case_year;
+
 /* The cases that need no seed: the paper's examples, and every header byte and number in turn. */
 void run_fixed_cases(void);
 
 /* And those whose numbers are written out, over the stored cells. */
 void run_literal_cases(void);
+void run_literal_year_cases(void);
+
+/* The stored cells, each in both years. */
+void run_stored_cases(void);
 
 /* What the header takes out of answers, and the words that dted_words.h has for them. */
 void run_answer_cases(void);

@@ -12,7 +12,8 @@ static struct cell cell;
 
 static const int64_t plain_items[CELL_ITEMS] = {0, 46, 7, 'U', 1, 'A', DTED_E96, -1, -1, -1, -1, -1, 0};
 
-/* A whole or a cut cell with these items; from one seed, since the cases here are always the same. */
+/* A whole or a cut cell with these items, with voids where the year allows them; from one seed, since the cases here are always the
+ * same. */
 static void make(int64_t level, int64_t latitude, int64_t longitude, int64_t partial, size_t columns_made) {
     struct random random = {1};
     int64_t items[CELL_ITEMS];
@@ -21,7 +22,7 @@ static void make(int64_t level, int64_t latitude, int64_t longitude, int64_t par
     items[DTED_LATITUDE] = latitude;
     items[DTED_LONGITUDE] = longitude;
     items[DTED_PARTIAL] = partial;
-    cell_make(&random, items, columns_made, &cell);
+    cell_make_with(&random, items, partial != 0 && (case_year == 1 || level == 2), columns_made, &cell);
 }
 
 /* ---- the paper's examples ---- */
@@ -73,19 +74,20 @@ static void lengths_case(const void *context) {
 static const struct word_example {
     uint8_t high, low;
     int64_t partial;
-    unsigned number;
+    unsigned number_in_1, number_in_2; /* by the year */
     int height;
 } word_examples[] = {
-    {0x23, 0x28, 0, 0, 9000}, {0x23, 0x29, 0, 6, 0},     {0xAE, 0xE0, 0, 0, -12000}, {0xAE, 0xE1, 0, 6, 0},
-    {0x80, 0x01, 0, 0, -1},   {0xFF, 0xFF, 1, 0, -32767}, {0xFF, 0xFF, 0, 6, 0},      {0x80, 0x00, 0, 0, 0},
-    {0x23, 0x29, 1, 6, 0},    {0xAE, 0xE1, 99, 6, 0},    {0x00, 0x00, 0, 0, 0},      {0xFF, 0xFE, 1, 6, 0},
-    {0x80, 0x00, 1, 0, 0},
+    {0x23, 0x28, 0, 0, 0, 9000}, {0x23, 0x29, 0, 6, 6, 0},      {0xAE, 0xE0, 0, 0, 0, -12000}, {0xAE, 0xE1, 0, 6, 6, 0},
+    {0x80, 0x01, 0, 0, 0, -1},   {0xFF, 0xFF, 1, 0, 6, -32767}, {0xFF, 0xFF, 0, 6, 6, 0},      {0x80, 0x00, 0, 0, 0, 0},
+    {0x23, 0x29, 1, 6, 6, 0},    {0xAE, 0xE1, 99, 6, 6, 0},     {0x00, 0x00, 0, 0, 0, 0},      {0xFF, 0xFE, 1, 6, 6, 0},
+    {0x80, 0x00, 1, 0, 0, 0},    {0xFF, 0xFF, 99, 0, 6, -32767},
 };
 
-/* M6, M7, M8, M13, void in a complete cell, and the other word of height 0. */
+/* M6, M7, M8, M13, void in a complete and in a partial cell of level 0, and the other word of height 0. */
 static void word_case(const void *context) {
     const struct word_example *example = context;
-    name_case("word %02X%02X", example->high, example->low);
+    unsigned number = case_year == 1 ? example->number_in_1 : example->number_in_2;
+    name_case("word %02X%02X in year %u", example->high, example->low, (unsigned)case_year);
     make(0, 89, 7, example->partial, SIZE_MAX);
     size_t offset = 3428 + 4 * 254 + 8 + 2 * 17;
     cell.bytes[offset] = example->high;
@@ -93,12 +95,12 @@ static void word_case(const void *context) {
     cell_mend_checksum(&cell, 4);
     both_lend(cell.bytes, cell.length);
     dted_answer answer = both_post(4, 17);
-    expect("post", dted_number(answer), example->number);
-    if (example->number == 0)
+    expect("post", dted_number(answer), number);
+    if (number == 0)
         expect("height", (uint64_t)dted_height(answer), (uint64_t)example->height);
     else
         expect("place", dted_place(answer), offset);
-    expect("intake", both_intake().bits, example->number == 0 ? both_grid(0, 89).bits : refusal(6, offset));
+    expect("intake", both_intake().bits, number == 0 ? both_grid(0, 89).bits : refusal(6, offset));
 }
 
 /* M9, M10, M11: zero words add nothing, so a column of one height and zeros has the sum of M9. */
@@ -527,10 +529,15 @@ static void run_examples(void) {
 }
 
 void run_fixed_cases(void) {
-    for (unsigned side = 0; side < sides; side++) {
-        both_side(side == 0 ? AT_START : AT_END);
+    for (unsigned round = 0; round < 2 * sides; round++) {
+        both_side(round % 2 == 0 ? AT_START : AT_END);
+        case_year = 1 + round / sides;
         run_examples();
         run_number_cases();
+    }
+    case_year = DTED_YEAR_2;
+    for (unsigned side = 0; side < sides; side++) {
+        both_side(side == 0 ? AT_START : AT_END);
         for (size_t first = 0; first + 1 < CELL_FIELDS; first++)
             run_case(two_fields_case, &first);
         run_case(free_bytes_case, NULL);

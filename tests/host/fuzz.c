@@ -1,6 +1,7 @@
 /* fuzz.c - a fuzzer's target over the whole C interface: the library and the second one, stopped at the first difference.
  *
- * An input is one byte that chooses, three numbers of 8 bytes (high byte first), then bytes. Of the choosing byte:
+ * An input is one byte that chooses, one for the rule year, three numbers of 8 bytes (high byte first), then bytes. The year is 1 or 2
+ * for most bytes, and an unknown one for the others. Of the choosing byte:
  *   bits 0 to 2  the call
  *   bit 3        the bytes are a seed and patches for a made cell, else they are the cell, or the grid
  *   bit 4        checksums are mended after the patches
@@ -40,6 +41,14 @@ static uint64_t take(struct input *input, size_t count) {
 /* The same bits, signed. */
 static int64_t signed_of(uint64_t bits) {
     return bits <= INT64_MAX ? (int64_t)bits : -1 - (int64_t)(UINT64_MAX - bits);
+}
+
+/* Unknown years are listed, but for the last byte, which takes the third number. */
+static uint32_t year_of(unsigned byte, uint64_t number) {
+    static const uint32_t unknown[] = {0, 3, 17, 255, 256, 257, 258, 65537, 65538, 0x80000001, UINT32_MAX};
+    if (byte < 224)
+        return 1 + byte % 2;
+    return byte == 255 ? (uint32_t)number : unknown[byte % COUNT(unknown)];
 }
 
 static struct cell cell;
@@ -113,7 +122,7 @@ int LLVMFuzzerInitialize(int *count, char ***texts) {
 
 int LLVMFuzzerTestOneInput(const uint8_t *bytes, size_t length) {
     struct input input = {bytes, length};
-    unsigned chosen = (unsigned)take(&input, 1), call = chosen & 7;
+    unsigned chosen = (unsigned)take(&input, 1), year = (unsigned)take(&input, 1), call = chosen & 7;
     bool made = (chosen & 8) != 0, mend = (chosen & 16) != 0, near = (chosen & 64) != 0;
     uint64_t numbers[3];
     for (int i = 0; i < 3; i++)
@@ -122,6 +131,7 @@ int LLVMFuzzerTestOneInput(const uint8_t *bytes, size_t length) {
     if (near && (chosen & 128) == 0)
         value %= 33000;
     both_side((chosen & 32) != 0 ? AT_START : AT_END);
+    both_year(year_of(year, numbers[2]));
     if (call == 5)
         both_grid(near ? numbers[0] % 4 : numbers[0], near ? signed_of(numbers[1]) % 100 : signed_of(numbers[1]));
     else if (call == 7)

@@ -1,6 +1,7 @@
 /* lines.c - what the intake program must print, by the second reader; and files to try both on.
  *
- * lines FILE                    prints `accepted LEVEL COLUMNS POSTS` or `refused NO PLACE` of the file.
+ * lines FILE                    prints `accepted LEVEL COLUMNS POSTS` or `refused NO PLACE` of the file, in rule year 2 as the program.
+ * lines --year1 FILE            the same in year 1.
  * lines --drip FILE             writes the file to standard output, a byte at a time.
  * lines --make DIR SEED N       writes N cells, whole and damaged, as DIR/0000.cell and so on.
  * lines --inputs DIR SEED N     writes N first inputs for the fuzzer, as DIR/0000.
@@ -40,10 +41,10 @@ static uint8_t *read_file(const char *name, size_t *length) {
     return bytes;
 }
 
-static void print_line(const char *name) {
+static void print_line(uint32_t year, const char *name) {
     size_t length;
     uint8_t *bytes = read_file(name, &length);
-    uint64_t answer = second_intake(bytes, length);
+    uint64_t answer = second_intake(year, bytes, length);
     unsigned number = (unsigned)(answer >> 56);
     if (number == 0)
         printf("accepted %u %u %u\n", (unsigned)(answer >> 32 & 0xFFFF), (unsigned)(answer >> 16 & 0xFFFF), (unsigned)(answer & 0xFFFF));
@@ -82,22 +83,24 @@ static void make_files(const char *folder, uint64_t seed, uint64_t files) {
     cell_free(&cell);
 }
 
-/* The layout is fuzz.c's: a byte that chooses, three numbers of 8 bytes, then bytes. Every choice comes up in turn. */
+/* The layout is fuzz.c's: a byte that chooses, one for the year, three numbers of 8 bytes, then bytes. Every choice comes up in turn. */
+#define FRONT 26
+
 static void make_inputs(const char *folder, uint64_t seed, uint64_t files) {
     struct cell cell = {0};
-    static uint8_t input[25 + 40000];
+    static uint8_t input[FRONT + 40000];
     for (uint64_t number = 0; number < files; number++) {
         struct random random = random_of_case(seed, number);
         int64_t items[CELL_ITEMS];
         cell_items(&random, 0, items);
         items[1] = 80 + (int64_t)random_below(&random, 10); /* zone V: the shortest cells */
         cell_make(&random, items, SIZE_MAX, &cell);
-        for (size_t i = 1; i < 25; i++)
+        for (size_t i = 1; i < FRONT; i++)
             input[i] = (uint8_t)random_next(&random);
         input[0] = (uint8_t)number;
         size_t length = (number & 8) == 0 ? cell.length : 40;
-        memcpy(input + 25, (number & 8) == 0 ? cell.bytes : cell.grid, length);
-        write_file(folder, number, "", input, 25 + length);
+        memcpy(input + FRONT, (number & 8) == 0 ? cell.bytes : cell.grid, length);
+        write_file(folder, number, "", input, FRONT + length);
     }
     cell_free(&cell);
 }
@@ -124,7 +127,9 @@ static uint64_t number_of(const char *text) {
 
 int main(int count, char **texts) {
     if (count == 2 && texts[1][0] != '-')
-        print_line(texts[1]);
+        print_line(2, texts[1]);
+    else if (count == 3 && strcmp(texts[1], "--year1") == 0)
+        print_line(1, texts[2]);
     else if (count == 5 && strcmp(texts[1], "--make") == 0)
         make_files(texts[2], number_of(texts[3]), number_of(texts[4]));
     else if (count == 5 && strcmp(texts[1], "--inputs") == 0)
@@ -132,7 +137,7 @@ int main(int count, char **texts) {
     else if (count == 3 && strcmp(texts[1], "--drip") == 0)
         drip(texts[2]);
     else {
-        fputs("lines FILE, lines --drip FILE, lines --make DIR SEED N, or lines --inputs DIR SEED N\n", stderr);
+        fputs("lines [--year1 | --drip] FILE, lines --make DIR SEED N, or lines --inputs DIR SEED N\n", stderr);
         return 2;
     }
     return 0;

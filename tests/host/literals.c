@@ -5,6 +5,7 @@
 #include "compare.h"
 #include "dted.h"
 #include "numbers.h"
+#include "stored.h"
 
 #include <stdio.h>
 #include <string.h>
@@ -15,14 +16,9 @@
 static uint8_t cell[40000];
 static size_t cell_length;
 
-/* A stored cell; the folder is given when this is compiled. */
 static void read_stored(const char *name) {
-    char path[4096];
-    snprintf(path, sizeof path, "%s/%s", CELLS, name);
-    FILE *file = fopen(path, "rb");
-    cell_length = file == NULL ? 0 : fread(cell, 1, sizeof cell, file);
-    if (file != NULL)
-        fclose(file);
+    size_t length = stored_read(name, cell, sizeof cell);
+    cell_length = length == SIZE_MAX ? 0 : length;
     expect("the stored cell is there", cell_length >= HEADERS, 1);
 }
 
@@ -69,14 +65,16 @@ static void names_case(const void *context) {
 static void numbers_case(const void *context) {
     static const unsigned numbers[][2] = {
         {DTED_OK, 0}, {DTED_SHORT, 1}, {DTED_CUT, 3}, {DTED_PREAMBLE, 4}, {DTED_CHECKSUM, 5}, {DTED_WORD, 6}, {DTED_SURPLUS, 7},
-        {DTED_OFF_GRID, 8}, {DTED_ITEM, 9}, {DTED_GRID_LENGTH, 10}, {DTED_HEIGHT, 11}, {DTED_ROOM, 12},
+        {DTED_OFF_GRID, 8}, {DTED_ITEM, 9}, {DTED_GRID_LENGTH, 10}, {DTED_HEIGHT, 11}, {DTED_ROOM, 12}, {DTED_YEAR, 17},
         {DTED_FIELD_IMPOSSIBLE, 21}, {DTED_FIELD_CONTRADICTS, 22}, {DTED_FIELD_OFF_TABLE, 23},
     };
     (void)context;
-    name_case("names of the refusals, sizes, and what answers hold");
-    expect("names", COUNT(numbers), 15);
+    name_case("names of the refusals, years, sizes, and what answers hold");
+    expect("names", COUNT(numbers), 16);
     for (size_t i = 0; i < COUNT(numbers); i++)
         expect("the name's number", numbers[i][0], numbers[i][1]);
+    expect("year 1", DTED_YEAR_1, 1);
+    expect("year 2", DTED_YEAR_2, 2);
     expect("header bytes", DTED_HEADER_BYTES, 3428);
     expect("preamble bytes", DTED_PREAMBLE_BYTES, 8);
     expect("the longest column", DTED_LONGEST_COLUMN, 7214);
@@ -94,9 +92,10 @@ static const struct stored_items {
     const char *name;
     int64_t items[ITEMS];
     uint64_t columns, posts;
+    uint64_t written_in_2; /* in year 2: the first cell has a void at post 0 of its column 40 */
 } stored_items[] = {
-    {"every_item.dt0", {0, -71, 102, 67, 42, 90, 0, 8, 9, 10, 11, 12, 13}, 41, 121},
-    {"every_item_level_1.dt1", {1, 79, -123, 82, 5, 77, 0, 2, 3, 4, 6, 7, 8}, 301, 1201},
+    {"every_item.dt0", {0, -71, 102, 67, 42, 90, 0, 8, 9, 10, 11, 12, 13}, 41, 121, 0x0B000000000012E8},
+    {"every_item_level_1.dt1", {1, 79, -123, 82, 5, 77, 0, 2, 3, 4, 6, 7, 8}, 301, 1201, 0},
 };
 
 /* Heights as a writer takes them, from the stored cell's words; zeros where it has headers alone. */
@@ -125,6 +124,9 @@ static void items_case(const void *context) {
         expect("item", (uint64_t)items[i], (uint64_t)stored->items[i]);
     size_t bytes = own_heights(stored, grid), length = HEADERS + stored->columns * (12 + 2 * stored->posts);
     expect("the stored cell's length", cell_length == length || cell_length == HEADERS, 1);
+    both_year(2);
+    expect("write in year 2", both_write(length, false, stored->items, grid, bytes).bits, stored->written_in_2);
+    both_year(1);
     expect("write", both_write(length, false, stored->items, grid, bytes).bits, 0);
     expect("the stored bytes", (uint64_t)memcmp(both_out(), cell, cell_length), 0);
 }
@@ -512,21 +514,27 @@ static void twice(const char *what, dted_answer by_header, uint64_t bare, uint64
 
 static void reading_calls_case(const void *context) {
     int64_t items[ITEMS];
+    size_t all;
     (void)context;
     name_case("answers as numbers, of a cell");
     read_stored("terrain.dt0");
-    twice("intake", dted_intake(cell, cell_length), bare_intake(cell, cell_length), 0x0001000000790079);
-    twice("intake, refused", dted_intake(cell, 17), bare_intake(cell, 17), refusal(1, 17));
-    twice("describe", dted_describe(cell, cell_length, items), bare_describe(cell, cell_length, items), 0);
+    all = cell_length;
+    twice("intake", dted_intake(2, cell, all), bare_intake(2, cell, all), 0x0001000000790079);
+    twice("intake, refused", dted_intake(2, cell, 17), bare_intake(2, cell, 17), refusal(1, 17));
+    twice("intake, its year", dted_intake(3, cell, all), bare_intake(3, cell, all), refusal(17, 3));
+    twice("describe", dted_describe(cell, all, items), bare_describe(cell, all, items), 0);
     twice("describe, refused", dted_describe(cell, 17, items), bare_describe(cell, 17, items), refusal(1, 17));
-    twice("post", dted_post(cell, cell_length, 60, 60), bare_post(cell, cell_length, 60, 60), 0x00020000000001E6);
-    twice("post, refused", dted_post(cell, cell_length, 121, 0), bare_post(cell, cell_length, 121, 0), refusal(8, 0));
-    twice("position", dted_position(cell, cell_length, 1674000, 270000), bare_position(cell, cell_length, 1674000, 270000),
+    twice("post", dted_post(2, cell, all, 60, 60), bare_post(2, cell, all, 60, 60), 0x00020000000001E6);
+    twice("post, refused", dted_post(2, cell, all, 121, 0), bare_post(2, cell, all, 121, 0), refusal(8, 0));
+    twice("post, its year", dted_post(0, cell, all, 60, 60), bare_post(0, cell, all, 60, 60), refusal(17, 0));
+    twice("position", dted_position(2, cell, all, 1674000, 270000), bare_position(2, cell, all, 1674000, 270000),
           0x0003003C003C01E6);
-    twice("position, refused", dted_position(cell, cell_length, 0, 0), bare_position(cell, cell_length, 0, 0), refusal(8, 0));
-    twice("edit", dted_edit(cell, cell_length, 60, 60, -1), bare_edit(cell, cell_length, 60, 60, -1), 0);
-    twice("edited", dted_post(cell, cell_length, 60, 60), bare_post(cell, cell_length, 60, 60), 0x000200000000FFFF);
-    twice("edit, refused", dted_edit(cell, cell_length, 60, 60, 9001), bare_edit(cell, cell_length, 60, 60, 9001), refusal(11, 0));
+    twice("position, refused", dted_position(2, cell, all, 0, 0), bare_position(2, cell, all, 0, 0), refusal(8, 0));
+    twice("position, its year", dted_position(9, cell, all, 0, 0), bare_position(9, cell, all, 0, 0), refusal(17, 9));
+    twice("edit", dted_edit(2, cell, all, 60, 60, -1), bare_edit(2, cell, all, 60, 60, -1), 0);
+    twice("edited", dted_post(2, cell, all, 60, 60), bare_post(2, cell, all, 60, 60), 0x000200000000FFFF);
+    twice("edit, refused", dted_edit(2, cell, all, 60, 60, 9001), bare_edit(2, cell, all, 60, 60, 9001), refusal(11, 0));
+    twice("edit, its year", dted_edit(4, cell, all, 60, 60, 1), bare_edit(4, cell, all, 60, 60, 1), refusal(17, 4));
 }
 
 static void writing_calls_case(const void *context) {
@@ -538,8 +546,9 @@ static void writing_calls_case(const void *context) {
     name_case("answers as numbers, of the writers");
     twice("grid", dted_grid(2, 0), bare_grid(2, 0), 0x000100020E110E11);
     twice("grid, refused", dted_grid(3, 0), bare_grid(3, 0), refusal(9, 1));
-    twice("write", dted_write(out, room, items, grid, bytes), bare_write(out, room, items, grid, bytes), 0);
-    twice("write, refused", dted_write(out, 17, items, grid, bytes), bare_write(out, 17, items, grid, bytes), refusal(12, 8762));
+    twice("write", dted_write(2, out, room, items, grid, bytes), bare_write(2, out, room, items, grid, bytes), 0);
+    twice("write, refused", dted_write(2, out, 17, items, grid, bytes), bare_write(2, out, 17, items, grid, bytes), refusal(12, 8762));
+    twice("write, its year", dted_write(5, out, 17, items, grid, bytes), bare_write(5, out, 17, items, grid, bytes), refusal(17, 5));
     twice("column", dted_write_column(out, room, 0, 0, grid, 242), bare_write_column(out, room, 0, 0, grid, 242), 0);
     twice("column, refused", dted_write_column(out, room, 0, 0, grid, 3), bare_write_column(out, room, 0, 0, grid, 3),
           refusal(10, 121));
@@ -574,6 +583,8 @@ void run_literal_cases(void) {
         for (size_t i = 0; i < COUNT(field_texts); i++)
             run_case(field_text_case, &field_texts[i]);
         run_case(all_fields_case, NULL);
-        run_sea_cases();
+        for (case_year = 1; case_year <= 2; case_year++)
+            run_sea_cases();
+        case_year = DTED_YEAR_2;
     }
 }

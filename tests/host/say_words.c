@@ -42,7 +42,7 @@ static void say_far(void) {
 }
 
 int main(void) {
-    static const uint64_t places[] = {0, 1, 13, 14, 24, 328, 3678, 25981042, UINT64_C(0xFFFFFFFFFFFFFF)};
+    static const uint64_t places[] = {0, 1, 3, 13, 14, 24, 328, 3678, 25981042, UINT32_MAX, UINT64_C(0xFFFFFFFFFFFFFF)};
     for (uint64_t offset = 0; offset < 3500; offset++)
         say_field(offset);
     for (unsigned number = 0; number < 256; number++)

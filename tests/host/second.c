@@ -73,6 +73,7 @@ struct reading {
     int edition, partial;
     bool e96;
     int accuracies[5];
+    bool voids; /* whether voids are allowed, in the year that the call names */
 };
 
 static bool is(const struct text *text, const char *due) {
@@ -398,6 +399,28 @@ static uint64_t read_headers(const uint8_t *cell, size_t length, struct reading 
     return 0;
 }
 
+/* ---- rule years ---- */
+
+/* The first thing that a call judges which names a year. */
+static uint64_t judge_year(uint32_t year) {
+    return year == 1 || year == 2 ? 0 : refused(17, year);
+}
+
+/* In year 1 a partial cell of any level may hold voids, in year 2 one of level 2 alone. */
+static bool voids_allowed(uint32_t year, const struct reading *r) {
+    return r->partial != 0 && (year == 1 || r->level == 2);
+}
+
+static uint64_t read_under(uint32_t year, const uint8_t *cell, size_t length, struct reading *reading) {
+    memset(reading, 0, sizeof *reading);
+    uint64_t answer = judge_year(year);
+    if (is_refused(answer))
+        return answer;
+    answer = read_headers(cell, length, reading);
+    reading->voids = voids_allowed(year, reading);
+    return answer;
+}
+
 /* ---- posts ---- */
 
 /* The height that a post word says; false where no cell may hold the word. 8000, minus nothing, says 0 as 0000 does. */
@@ -464,7 +487,7 @@ static uint64_t judge_column(const uint8_t *cell, size_t length, const struct re
     if (number_at(cell + checksum, 4) != sum_of(cell + start, r->column_bytes - 4))
         return refused(5, checksum);
     for (size_t word = start + 8; word < checksum; word += 2)
-        if (!height_of_word(cell + word, r->partial != 0, &height))
+        if (!height_of_word(cell + word, r->voids, &height))
             return refused(6, word);
     return 0;
 }
@@ -482,9 +505,9 @@ static void make_column(uint8_t *column, size_t number, const int *heights, size
 
 /* ---- calls on a cell ---- */
 
-uint64_t second_intake(const uint8_t *cell, size_t length) {
+uint64_t second_intake(uint32_t year, const uint8_t *cell, size_t length) {
     struct reading r;
-    uint64_t answer = read_headers(cell, length, &r);
+    uint64_t answer = read_under(year, cell, length, &r);
     for (int k = 0; k < r.columns && !is_refused(answer); k++)
         answer = judge_column(cell, length, &r, (size_t)k);
     if (is_refused(answer))
@@ -507,8 +530,9 @@ uint64_t second_describe(const uint8_t *cell, size_t length, int64_t *items) {
 }
 
 /* What lookups and the edit judge: the headers, the index, and the addressed column alone. */
-static uint64_t judge_post(const uint8_t *cell, size_t length, uint64_t column, uint64_t post, struct reading *r) {
-    uint64_t answer = read_headers(cell, length, r);
+static uint64_t judge_post(uint32_t year, const uint8_t *cell, size_t length, uint64_t column, uint64_t post,
+                           struct reading *r) {
+    uint64_t answer = read_under(year, cell, length, r);
     if (is_refused(answer))
         return answer;
     if (column >= (uint64_t)r->columns || post >= (uint64_t)r->posts)
@@ -522,9 +546,9 @@ static int height_at(const uint8_t *cell, const struct reading *r, uint64_t colu
     return height;
 }
 
-uint64_t second_post(const uint8_t *cell, size_t length, uint64_t column, uint64_t post) {
+uint64_t second_post(uint32_t year, const uint8_t *cell, size_t length, uint64_t column, uint64_t post) {
     struct reading r;
-    uint64_t answer = judge_post(cell, length, column, post, &r);
+    uint64_t answer = judge_post(year, cell, length, column, post, &r);
     return is_refused(answer) ? answer : three(HEIGHT, 0, 0, height_at(cell, &r, column, post));
 }
 
@@ -547,9 +571,9 @@ static bool within(int64_t where, int64_t degrees) {
     return degrees * DEGREE <= where && where <= (degrees + 1) * DEGREE;
 }
 
-uint64_t second_position(const uint8_t *cell, size_t length, int64_t latitude, int64_t longitude) {
+uint64_t second_position(uint32_t year, const uint8_t *cell, size_t length, int64_t latitude, int64_t longitude) {
     struct reading r;
-    uint64_t answer = read_headers(cell, length, &r);
+    uint64_t answer = read_under(year, cell, length, &r);
     if (is_refused(answer))
         return answer;
     /* the 180th meridian has two names: the one that this cell uses will do */
@@ -565,12 +589,12 @@ uint64_t second_position(const uint8_t *cell, size_t length, int64_t latitude, i
 
 /* An edit replaces the post's word by the writer's and the checksum by the column's new sum; all other bytes stay, other words for
  * the same heights too. */
-uint64_t second_edit(uint8_t *cell, size_t length, uint64_t column, uint64_t post, int64_t height) {
+uint64_t second_edit(uint32_t year, uint8_t *cell, size_t length, uint64_t column, uint64_t post, int64_t height) {
     struct reading r;
-    uint64_t answer = judge_post(cell, length, column, post, &r);
+    uint64_t answer = judge_post(year, cell, length, column, post, &r);
     if (is_refused(answer))
         return answer;
-    if (!height_allowed(height, r.partial != 0))
+    if (!height_allowed(height, r.voids))
         return refused(11, 0);
     uint8_t *start = cell + HEADERS + (size_t)column * r.column_bytes;
     size_t summed = r.column_bytes - 4;
@@ -714,14 +738,17 @@ static void column_from_grid(uint8_t *column, size_t number, const uint8_t *grid
     make_column(column, number, heights, count);
 }
 
-uint64_t second_write(uint8_t *out, size_t room, const int64_t *items, const uint8_t *grid, size_t bytes) {
-    for (int item = 1; item <= ITEMS; item++)
+uint64_t second_write(uint32_t year, uint8_t *out, size_t room, const int64_t *items, const uint8_t *grid, size_t bytes) {
+    uint64_t answer = judge_year(year);
+    for (int item = 1; item <= ITEMS && !is_refused(answer); item++)
         if (!item_allowed(item, items[item - 1]))
-            return refused(9, (uint64_t)item);
+            answer = refused(9, (uint64_t)item);
+    if (is_refused(answer))
+        return answer;
     struct reading r = reading_of(items);
     size_t columns_due = (size_t)r.columns, posts_due = (size_t)r.posts;
-    uint64_t answer = judge_grid(grid, bytes, columns_due * posts_due, r.partial != 0, room,
-                                 HEADERS + columns_due * r.column_bytes);
+    answer = judge_grid(grid, bytes, columns_due * posts_due, voids_allowed(year, &r), room,
+                        HEADERS + columns_due * r.column_bytes);
     if (is_refused(answer))
         return answer;
     second_headers(out, items);

@@ -12,13 +12,13 @@
 #include <stddef.h>
 #include <stdint.h>
 
-uint64_t second_intake(const uint8_t *cell, size_t length);
+uint64_t second_intake(uint32_t year, const uint8_t *cell, size_t length);
 uint64_t second_describe(const uint8_t *cell, size_t length, int64_t *items);
-uint64_t second_post(const uint8_t *cell, size_t length, uint64_t column, uint64_t post);
-uint64_t second_position(const uint8_t *cell, size_t length, int64_t latitude, int64_t longitude);
-uint64_t second_edit(uint8_t *cell, size_t length, uint64_t column, uint64_t post, int64_t height);
+uint64_t second_post(uint32_t year, const uint8_t *cell, size_t length, uint64_t column, uint64_t post);
+uint64_t second_position(uint32_t year, const uint8_t *cell, size_t length, int64_t latitude, int64_t longitude);
+uint64_t second_edit(uint32_t year, uint8_t *cell, size_t length, uint64_t column, uint64_t post, int64_t height);
 uint64_t second_grid(uint64_t level, int64_t latitude);
-uint64_t second_write(uint8_t *out, size_t room, const int64_t *items, const uint8_t *grid, size_t bytes);
+uint64_t second_write(uint32_t year, uint8_t *out, size_t room, const int64_t *items, const uint8_t *grid, size_t bytes);
 uint64_t second_write_column(uint8_t *out, size_t room, uint64_t level, uint64_t number, const uint8_t *posts, size_t bytes);
 
 /* The headers alone, of items that are all in range: tests cut cells after any column. */

@@ -34,8 +34,8 @@ static void room_case(const void *context) {
 
 void run_word_cases(void) {
     static const uint64_t accepted[] = {0, 0x0001000000790079, 0x00020000000001E6, 0x0003003C003C01E6, 0x00FFFFFFFFFFFFFF};
-    static const uint64_t places[] = {0, 1, 321, 328, 3678, 0xFFFFFFFFFFFFFF};
-    static const uint64_t numbers[] = {1, 2, 3, 4, 5, 6, 7, 8, 9, 10, 11, 12, 13, 20, 21, 22, 23, 24, 255};
+    static const uint64_t places[] = {0, 1, 321, 328, 3678, 0xFFFFFFFF, 0xFFFFFFFFFFFFFF};
+    static const uint64_t numbers[] = {1, 2, 3, 4, 5, 6, 7, 8, 9, 10, 11, 12, 13, 16, 17, 18, 20, 21, 22, 23, 24, 255};
     lent_map(&pages, DTED_WORDS_ROOM);
     for (size_t i = 0; i < COUNT(accepted); i++)
         run_case(room_case, &accepted[i]);
