@@ -203,8 +203,9 @@ GDAL_CFLAGS ?= $(shell pkg-config --cflags gdal 2>/dev/null)
 GDAL_LIBS ?= $(shell pkg-config --libs gdal 2>/dev/null)
 BENCH_FLAGS := -std=c11 -Wall -Wextra -Wpedantic -Werror -O3 -Iinclude
 BENCH_PARTS := bench report plain limit same gdal_calls
-# make bench OLD=path: beside another archive of the library, in one run
-BENCH = target/bench$(if $(OLD),-beside)
+# make bench OLD=path: beside another archive of the library, in one run; with OLD_YEARLESS=yes beside one of before 0.5.0, whose
+# calls name no rule year
+BENCH = target/bench$(if $(OLD),-beside$(if $(OLD_YEARLESS),-yearless))
 BENCH_OBJECTS = $(BENCH_PARTS:%=$(BENCH)/%.o) $(if $(SECOND_CC),$(BENCH)/second.o) $(if $(OLD),$(BENCH)/old.a)
 ifeq ($(shell uname -m),x86_64)
 BENCH_ARCHIVE = $(LINKED)
@@ -230,7 +231,7 @@ $(BENCH)/bench: $(BENCH_OBJECTS) $(BENCH_ARCHIVE)
 
 $(BENCH)/%.o: bench/%.c $(wildcard bench/*.h) include/dted.h
 	@mkdir -p $(@D)
-	$(BENCH_CC) $(BENCH_FLAGS) $(if $(SECOND_CC),-DWITH_SECOND) $(if $(OLD),-DWITH_OLD) $(if $(GDAL_LIBS),-DWITH_GDAL $(GDAL_CFLAGS:-I%=-isystem %)) -c $< -o $@
+	$(BENCH_CC) $(BENCH_FLAGS) $(if $(SECOND_CC),-DWITH_SECOND) $(if $(OLD),-DWITH_OLD $(if $(OLD_YEARLESS),-DOLD_YEARLESS)) $(if $(GDAL_LIBS),-DWITH_GDAL $(GDAL_CFLAGS:-I%=-isystem %)) -c $< -o $@
 
 # plain.c by another compiler, under other names
 $(BENCH)/second.o: bench/plain.c bench/plain.h include/dted.h

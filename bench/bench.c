@@ -22,19 +22,18 @@ enum { PICKS = 3601, SETS = 4, LAPS = 50 };
 PLAIN_CALLS(second);
 #endif
 
-/* another archive of the library, its names with old_ before them */
 #ifdef WITH_OLD
-PLAIN_CALLS(old_dted);
+#include "old_calls.h"
 #endif
 
 static const struct calls sets[] = {
-    {"library", dted_intake, dted_post, dted_edit, dted_write},
-    {"plain C", plain_intake, plain_post, plain_edit, plain_write},
+    {"library", dted_intake, dted_post, dted_edit, dted_write, false},
+    {"plain C", plain_intake, plain_post, plain_edit, plain_write, false},
 #ifdef WITH_SECOND
-    {"plain C, second", second_intake, second_post, second_edit, second_write},
+    {"plain C, second", second_intake, second_post, second_edit, second_write, false},
 #endif
 #ifdef WITH_OLD
-    {"other archive", old_dted_intake, old_dted_post, old_dted_edit, old_dted_write},
+    {"other archive", OLD(intake), OLD(post), OLD(edit), OLD(write), OLD_IS_YEARLESS},
 #endif
 };
 enum { SET_COUNT = sizeof sets / sizeof *sets };
@@ -111,7 +110,7 @@ static void make_cell(void) {
     for (size_t x = 0; x < columns; x++)
         for (size_t y = 0; y < posts; y++)
             dted_put_height(grid + 2 * (x * posts + y), formula((int)x, (int)y));
-    if (dted_number(dted_write(cell, length, items, grid, bytes)) != DTED_OK || length != DTED_LONGEST_CELL)
+    if (dted_number(dted_write(DTED_YEAR_2, cell, length, items, grid, bytes)) != DTED_OK || length != DTED_LONGEST_CELL)
         stop("the cell was not written");
     for (size_t i = 0; i < SET_COUNT; i++)
         edited[i] = memcpy(room_for(length), cell, length);
@@ -130,27 +129,28 @@ static void make_picks(void) {
 
 static uint64_t intake(const struct lap *lap, unsigned round) {
     (void)round;
-    return lap->with->intake(cell, length).bits;
+    return lap->with->intake(DTED_YEAR_2, cell, length).bits;
 }
 
 static uint64_t post(const struct lap *lap, unsigned round) {
     uint64_t sum = 0;
     (void)round;
     for (int i = 0; i < PICKS; i++)
-        sum += lap->with->post(cell, length, picks[i].column, picks[i].post).bits;
+        sum += lap->with->post(DTED_YEAR_2, cell, length, picks[i].column, picks[i].post).bits;
     return sum;
 }
 
 static uint64_t edit(const struct lap *lap, unsigned round) {
     uint64_t sum = 0;
     for (int i = 0; i < PICKS; i++)
-        sum += lap->with->edit(edited[lap->with - sets], length, picks[i].column, picks[i].post, picks[i].height - (int)round).bits;
+        sum += lap->with->edit(DTED_YEAR_2, edited[lap->with - sets], length, picks[i].column, picks[i].post,
+                               picks[i].height - (int)round).bits;
     return sum;
 }
 
 static uint64_t whole(const struct lap *lap, unsigned round) {
     (void)round;
-    return lap->with->write(out, length, items, grid, bytes).bits;
+    return lap->with->write(DTED_YEAR_2, out, length, items, grid, bytes).bits;
 }
 
 /* Intake that is refused early, again and again. */
@@ -158,7 +158,7 @@ static uint64_t early(const struct lap *lap, unsigned round) {
     uint64_t sum = 0;
     (void)round;
     for (int i = 0; i < PICKS; i++)
-        sum += lap->with->intake(cell, length).bits;
+        sum += lap->with->intake(DTED_YEAR_2, cell, length).bits;
     return sum;
 }
 
@@ -238,7 +238,7 @@ static unsigned put_last_word(unsigned word) {
 /* Whether GDAL reads a cell with a post word that the library refuses. */
 static bool gdal_takes_bad_word(void) {
     unsigned was = put_last_word(9001);
-    if (dted_number(dted_intake(cell, length)) != DTED_WORD)
+    if (dted_number(dted_intake(DTED_YEAR_2, cell, length)) != DTED_WORD)
         stop("a word out of range is not refused");
     bool taken = gdal_read_all(rows);
     put_last_word(was);

@@ -4,12 +4,15 @@
 
 #include "dted.h"
 
+#include <stdbool.h>
+
 struct calls {
     const char *name;
-    dted_answer (*intake)(const uint8_t *cell, size_t length);
-    dted_answer (*post)(const uint8_t *cell, size_t length, uint64_t column, uint64_t post);
-    dted_answer (*edit)(uint8_t *cell, size_t length, uint64_t column, uint64_t post, int64_t height);
-    dted_answer (*write)(uint8_t *out, size_t room, const int64_t *items, const uint8_t *grid, size_t bytes);
+    dted_answer (*intake)(uint32_t year, const uint8_t *cell, size_t length);
+    dted_answer (*post)(uint32_t year, const uint8_t *cell, size_t length, uint64_t column, uint64_t post);
+    dted_answer (*edit)(uint32_t year, uint8_t *cell, size_t length, uint64_t column, uint64_t post, int64_t height);
+    dted_answer (*write)(uint32_t year, uint8_t *out, size_t room, const int64_t *items, const uint8_t *grid, size_t bytes);
+    bool yearless; /* whatever year is named, they answer as in year 1 */
 };
 
 /* The next number of a row that its seed fixes; the seed is not 0. */

@@ -56,6 +56,13 @@ static void put32(uint8_t *p, uint32_t v) {
     put16(p + 2, (uint16_t)v);
 }
 
+/* ---- rule years ---- */
+
+static bool is_year(uint32_t year) { return year == DTED_YEAR_1 || year == DTED_YEAR_2; }
+
+/* In year 1 any partial cell may hold voids, in year 2 one of level 2 alone. */
+static bool allows_voids(uint32_t year, unsigned level, bool partial) { return partial && (year == DTED_YEAR_1 || level == 2); }
+
 /* ---- the grid ---- */
 
 static int factor(int latitude) {
@@ -267,7 +274,7 @@ static unsigned judge_corners(const uint8_t *h, const struct facts *f) {
     return GOOD;
 }
 
-static unsigned judge_counts(const uint8_t *h, struct facts *f) {
+static unsigned judge_counts(uint32_t year, const uint8_t *h, struct facts *f) {
     if (!has(h + 344, "0000000.0"))
         return 344;
     if (decimal(h + 353, 4) != f->north)
@@ -279,7 +286,7 @@ static unsigned judge_counts(const uint8_t *h, struct facts *f) {
     if (decimal(h + 365, 4) != (int)f->columns)
         return 365;
     int partial = decimal(h + 369, 2);
-    f->voids = partial > 0;
+    f->voids = allows_voids(year, f->level, partial > 0);
     return partial < 0 ? 369 : GOOD;
 }
 
@@ -412,9 +419,11 @@ OUT_OF_LINE static dted_answer refuse_field(const uint8_t *h, unsigned at, const
     return refuse(field_number(h, at), field_place(h, at, f));
 }
 
-/* ---- headers, judged ---- */
+/* ---- year and headers, judged ---- */
 
-static dted_answer judge_headers(const uint8_t *h, size_t length, struct facts *f) {
+static dted_answer judge_headers(uint32_t year, const uint8_t *h, size_t length, struct facts *f) {
+    if (!is_year(year))
+        return refuse(DTED_YEAR, year);
     if (length < DTED_HEADER_BYTES)
         return refuse(DTED_SHORT, length);
     unsigned bad = judge_uhl(h, f);
@@ -423,7 +432,7 @@ static dted_answer judge_headers(const uint8_t *h, size_t length, struct facts *
     if (bad == GOOD)
         bad = judge_corners(h, f);
     if (bad == GOOD)
-        bad = judge_counts(h, f);
+        bad = judge_counts(year, h, f);
     if (bad == GOOD)
         bad = judge_acc(h);
     return bad == GOOD ? done() : refuse_field(h, bad, f);
@@ -487,9 +496,9 @@ static dted_answer judge_column(const uint8_t *cell, size_t length, const struct
 
 /* ---- calls on a cell ---- */
 
-dted_answer plain_intake(const uint8_t *cell, size_t length) {
+dted_answer plain_intake(uint32_t year, const uint8_t *cell, size_t length) {
     struct facts f;
-    dted_answer answer = judge_headers(cell, length, &f);
+    dted_answer answer = judge_headers(year, cell, length, &f);
     if (dted_number(answer) != DTED_OK)
         return answer;
     for (unsigned k = 0; k < f.columns; k++)
@@ -501,9 +510,9 @@ dted_answer plain_intake(const uint8_t *cell, size_t length) {
     return hold(DTED_HOLDS_GRID, (uint64_t)f.level << 32 | (uint64_t)f.columns << 16 | f.posts);
 }
 
-/* The headers, the post's place on the grid, and its column. */
-static dted_answer reach(const uint8_t *cell, size_t length, uint64_t column, uint64_t post, struct facts *f) {
-    dted_answer answer = judge_headers(cell, length, f);
+/* The year, the headers, the post's place on the grid, and its column. */
+static dted_answer reach(uint32_t year, const uint8_t *cell, size_t length, uint64_t column, uint64_t post, struct facts *f) {
+    dted_answer answer = judge_headers(year, cell, length, f);
     if (dted_number(answer) != DTED_OK)
         return answer;
     if (column >= f->columns || post >= f->posts)
@@ -511,9 +520,9 @@ static dted_answer reach(const uint8_t *cell, size_t length, uint64_t column, ui
     return judge_column(cell, length, f, (unsigned)column);
 }
 
-dted_answer plain_post(const uint8_t *cell, size_t length, uint64_t column, uint64_t post) {
+dted_answer plain_post(uint32_t year, const uint8_t *cell, size_t length, uint64_t column, uint64_t post) {
     struct facts f;
-    dted_answer answer = reach(cell, length, column, post, &f);
+    dted_answer answer = reach(year, cell, length, column, post, &f);
     if (dted_number(answer) != DTED_OK)
         return answer;
     const uint8_t *word = cell + DTED_HEADER_BYTES + column * f.column_bytes + 8 + 2 * post;
@@ -527,9 +536,9 @@ static bool may_hold(int64_t height, bool voids) {
 /* A void, too, is its sign and its magnitude. */
 static inline uint16_t word_of(int height) { return (uint16_t)(height < 0 ? 0x8000 | -height : height); }
 
-dted_answer plain_edit(uint8_t *cell, size_t length, uint64_t column, uint64_t post, int64_t height) {
+dted_answer plain_edit(uint32_t year, uint8_t *cell, size_t length, uint64_t column, uint64_t post, int64_t height) {
     struct facts f;
-    dted_answer answer = reach(cell, length, column, post, &f);
+    dted_answer answer = reach(year, cell, length, column, post, &f);
     if (dted_number(answer) != DTED_OK)
         return answer;
     if (!may_hold(height, f.voids))
@@ -592,14 +601,16 @@ static void put_column(uint8_t *restrict out, const uint8_t *restrict grid, unsi
     put32(out + end, byte_sum(out, end));
 }
 
-dted_answer plain_write(uint8_t *out, size_t room, const int64_t *items, const uint8_t *grid, size_t bytes) {
+dted_answer plain_write(uint32_t year, uint8_t *out, size_t room, const int64_t *items, const uint8_t *grid, size_t bytes) {
     struct facts f;
     unsigned item = bad_item(items);
+    if (!is_year(year))
+        return refuse(DTED_YEAR, year);
     if (item)
         return refuse(DTED_ITEM, item);
     lay(&f, (unsigned)items[DTED_LEVEL], (int)items[DTED_LATITUDE]);
     f.longitude = (int)items[DTED_LONGITUDE];
-    f.voids = items[DTED_PARTIAL] != 0;
+    f.voids = allows_voids(year, f.level, items[DTED_PARTIAL] != 0);
     size_t posts = (size_t)f.columns * f.posts, due = DTED_HEADER_BYTES + f.columns * f.column_bytes;
     if (bytes != 2 * posts)
         return refuse(DTED_GRID_LENGTH, posts);

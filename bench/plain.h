@@ -6,10 +6,10 @@
 
 /* The calls, and the compiler that made them, under names that begin with a word of one's choice. */
 #define PLAIN_CALLS(who) \
-    dted_answer who##_intake(const uint8_t *cell, size_t length); \
-    dted_answer who##_post(const uint8_t *cell, size_t length, uint64_t column, uint64_t post); \
-    dted_answer who##_edit(uint8_t *cell, size_t length, uint64_t column, uint64_t post, int64_t height); \
-    dted_answer who##_write(uint8_t *out, size_t room, const int64_t *items, const uint8_t *grid, size_t bytes); \
+    dted_answer who##_intake(uint32_t year, const uint8_t *cell, size_t length); \
+    dted_answer who##_post(uint32_t year, const uint8_t *cell, size_t length, uint64_t column, uint64_t post); \
+    dted_answer who##_edit(uint32_t year, uint8_t *cell, size_t length, uint64_t column, uint64_t post, int64_t height); \
+    dted_answer who##_write(uint32_t year, uint8_t *out, size_t room, const int64_t *items, const uint8_t *grid, size_t bytes); \
     const char *who##_compiler(void)
 
 PLAIN_CALLS(plain);

@@ -13,6 +13,8 @@ static const struct calls *one, *two;
 static size_t compared;
 static uint64_t seed;
 static bool negative_zeros; /* whether cells with the word 8000 are tried */
+static bool years;          /* whether years other than 1 are named */
+static uint32_t year;       /* that is named in a call */
 
 /* A small cell with its grid, and what both sets of calls made of it. */
 static int64_t items[DTED_ITEMS];
@@ -26,8 +28,12 @@ static void differ(const char *what) {
     exit(1);
 }
 
+/* How often each number was answered alike in years other than 1, and in year 1. */
+static size_t told[2][256];
+
 static void same(dted_answer a, dted_answer b, const char *what) {
     compared++;
+    told[year == 1][dted_number(a)]++;
     if (a.bits == b.bits)
         return;
     fprintf(stderr, "%016" PRIx64 " %016" PRIx64 "\n", a.bits, b.bits);
@@ -40,12 +46,23 @@ static void same_bytes(const uint8_t *a, const uint8_t *b, size_t bytes, const c
         differ(what);
 }
 
+/* Names year 1 or 2 from now on. */
+static void known_year(void) { year = years ? 1 + (uint32_t)below(2) : 1; }
+
+/* At times an unknown one, mostly near a known one or like it in its low bits. */
+static void some_year(void) {
+    static const uint32_t unknown[] = {0, 3, 17, 255, 256, 257, 258, 65537, 65538, 0x80000001, UINT32_MAX};
+    known_year();
+    if (years && below(8) == 0)
+        year = unknown[below(sizeof unknown / sizeof *unknown)];
+}
+
 static void same_intake(const uint8_t *cell, size_t bytes) {
-    same(one->intake(cell, bytes), two->intake(cell, bytes), "intake");
+    same(one->intake(year, cell, bytes), two->intake(year, cell, bytes), "intake");
 }
 
 static void same_post(const uint8_t *cell, size_t bytes, uint64_t column, uint64_t post) {
-    same(one->post(cell, bytes, column, post), two->post(cell, bytes, column, post), "post");
+    same(one->post(year, cell, bytes, column, post), two->post(year, cell, bytes, column, post), "post");
 }
 
 /* ---- small cells, written ---- */
@@ -80,21 +97,22 @@ static void some_items(int latitude) {
 static void same_write(size_t room, size_t bytes) {
     memset(first, 0x5A, sizeof first);
     memset(second, 0x5A, sizeof second);
-    same(one->write(first, room, items, grid, bytes), two->write(second, room, items, grid, bytes), "write");
+    same(one->write(year, first, room, items, grid, bytes), two->write(year, second, room, items, grid, bytes), "write");
     same_bytes(first, second, sizeof first, "written bytes");
 }
 
-/* Makes a good small cell of the items, by both. */
+/* Makes a small cell of the items, by both, that is good in the year named from now on. */
 static void write_small(void) {
+    known_year();
     dted_answer laid = dted_grid(0, items[DTED_LATITUDE]);
     columns = dted_columns(laid);
     column_bytes = dted_column_length(laid);
     length = dted_cell_length(laid);
     for (size_t i = 0; i < columns * dted_posts(laid); i++)
-        dted_put_height(grid + 2 * i, good_height(items[DTED_PARTIAL] != 0));
+        dted_put_height(grid + 2 * i, good_height(items[DTED_PARTIAL] != 0 && year == 1));
     same_write(length, 2 * columns * dted_posts(laid));
     same_intake(first, length);
-    if (dted_number(one->intake(first, length)) != DTED_OK)
+    if (dted_number(one->intake(year, first, length)) != DTED_OK)
         differ("a written cell is refused");
 }
 
@@ -115,6 +133,7 @@ static void compare_refused_writes(void) {
             items[below(DTED_ITEMS)] = (int64_t)(next_random(&seed) << 16);
         if (!below(3))
             dted_put_height(grid + 2 * below(columns * 121), some_height());
+        some_year();
         same_write(length - !below(3), bytes + (below(3) ? 0 : below(3)) - (below(3) ? 0 : below(3)));
     }
 }
@@ -188,7 +207,7 @@ static void keep_headers(void) {
         raise_level(first, i % LEVELS, (int)items[DTED_LATITUDE]);
         memcpy(kept[i], first, DTED_HEADER_BYTES);
         same_intake(kept[i], DTED_HEADER_BYTES);
-        if (dted_number(one->intake(kept[i], DTED_HEADER_BYTES)) != DTED_CUT)
+        if (dted_number(one->intake(year, kept[i], DTED_HEADER_BYTES)) != DTED_CUT)
             differ("good headers are refused");
     }
 }
@@ -225,9 +244,10 @@ static void compare_spoiled(unsigned from, size_t f) {
     uint8_t h[DTED_HEADER_BYTES];
     memcpy(h, kept[from], sizeof h);
     size_t at = spoil(h, field);
+    known_year();
     same_intake(h, sizeof h);
     same_post(h, sizeof h, 0, 0);
-    dted_answer answer = one->intake(h, sizeof h);
+    dted_answer answer = one->intake(year, h, sizeof h);
     unsigned number = dted_number(answer);
     if (number < 21 || number > 23)
         return;
@@ -307,6 +327,7 @@ static void compare_damage(void) {
     }
     if (below(4))
         put_sum(column);
+    some_year();
     if (negative_zeros || !has_negative_zero(column)) {
         same_intake(first, length);
         same_post(first, length, k, below(123));
@@ -315,7 +336,8 @@ static void compare_damage(void) {
 }
 
 static void compare_cuts(void) {
-    size_t bytes = below(8) ? below(length + 3) : DTED_HEADER_BYTES - below(2);
+    size_t bytes = below(8) ? below(length + 3) : below(2) ? DTED_HEADER_BYTES - below(2) : length + below(3);
+    some_year();
     same_intake(first, bytes);
     same_post(first, bytes, below(columns + 2), below(123));
     same_post(first, bytes, next_random(&seed) << 16, next_random(&seed) << 16);
@@ -333,8 +355,9 @@ static void compare_negative_zeros(void) {
         put_sum(column);
     }
     memcpy(second, first, length);
+    year = 1; /* a cell that was written in either is good in this one */
     same_intake(first, length);
-    if (dted_number(one->intake(first, length)) != DTED_OK)
+    if (dted_number(one->intake(year, first, length)) != DTED_OK)
         differ("a cell with the word 8000 is refused");
     for (int i = 0; i < 100; i++)
         same_post(first, length, below(columns), below(121));
@@ -343,25 +366,30 @@ static void compare_negative_zeros(void) {
 static void compare_edits(void) {
     uint64_t column = below(columns + 1), post = below(122);
     int64_t height = below(8) ? some_height() : (int64_t)(next_random(&seed) << 16);
-    same(one->edit(first, length, column, post, height), two->edit(second, length, column, post, height), "edit");
+    some_year();
+    same(one->edit(year, first, length, column, post, height), two->edit(year, second, length, column, post, height), "edit");
     same_bytes(first, second, length, "edited bytes");
 }
 
 /* ---- the large cell ---- */
 
-/* Its first column all void, which has the largest sum, and the cell partial. */
+/* Its first column all void, which has the largest sum, and the cell partial: at level 2 that is good in both years. */
 static void compare_voids(uint8_t *spare, size_t bytes) {
     uint8_t *column = spare + DTED_HEADER_BYTES;
     memcpy(spare + 369, "01", 2);
     memset(column + DTED_PREAMBLE_BYTES, 0xFF, column_bytes - 12);
     put_sum(column);
-    same_intake(spare, bytes);
-    if (dted_number(one->intake(spare, bytes)) != DTED_OK)
-        differ("a partial cell is refused");
+    for (year = 1; year <= (years ? 2 : 1); year++) {
+        same_intake(spare, bytes);
+        same_post(spare, bytes, 0, 0);
+        if (dted_number(one->intake(year, spare, bytes)) != DTED_OK)
+            differ("a partial cell is refused");
+    }
 }
 
 static void compare_large(const uint8_t *cell, uint8_t *spare, size_t bytes) {
-    dted_answer answer = one->intake(cell, bytes);
+    known_year();
+    dted_answer answer = one->intake(year, cell, bytes);
     same_intake(cell, bytes);
     for (int i = 0; i < TRIES / 10; i++)
         same_post(cell, bytes, below(dted_columns(answer)), below(dted_posts(answer)));
@@ -375,12 +403,25 @@ static void compare_large(const uint8_t *cell, uint8_t *spare, size_t bytes) {
     compare_voids(spare, bytes);
 }
 
+/* Each number is met in both years, but for 17, which is for no year. */
+static void check_told(void) {
+    for (unsigned number = DTED_SHORT; number <= DTED_YEAR; number++) {
+        bool given = number == DTED_YEAR || (number <= DTED_ROOM && number != 2);
+        if (given && years && told[0][number] == 0)
+            differ("a number was not met in years other than 1");
+        if (given && number != DTED_YEAR && told[1][number] == 0)
+            differ("a number was not met in year 1");
+    }
+}
+
 size_t compare(const struct calls *a, const struct calls *b, const uint8_t *large, uint8_t *spare, size_t bytes,
                bool with_negative_zeros) {
     one = a;
     two = b;
     negative_zeros = with_negative_zeros;
+    years = !a->yearless && !b->yearless;
     compared = 0;
+    memset(told, 0, sizeof told);
     seed = 20261115;
     compare_items();
     compare_refused_writes();
@@ -399,5 +440,6 @@ size_t compare(const struct calls *a, const struct calls *b, const uint8_t *larg
             compare_edits();
     }
     compare_large(large, spare, bytes);
+    check_told();
     return compared;
 }
