@@ -75,12 +75,12 @@ def with_word(data, size, k, post, word):
     return data[:start] + bytes(body) + sum(body).to_bytes(4, "big") + data[start + size:]
 
 
-def repeated(level, latitude, longitude):
+def repeated(level, latitude, longitude, partial=0):
     """A cell whose columns differ in their numbers alone: quickly made, at any level."""
     _, _, columns, posts = grid(level, latitude)
     same = words(37 * p % 9400 - 400 for p in range(posts))
     total = sum(same)
-    cell = [bytes(headers(level, latitude, longitude))]
+    cell = [bytes(headers(level, latitude, longitude, partial))]
     for k in range(columns):
         front = preamble(k)
         cell += (front, same, (sum(front) + total).to_bytes(4, "big"))
