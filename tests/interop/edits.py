@@ -139,6 +139,28 @@ def not_allowed():
         check("edit.not_allowed", f"the partial indicator, {height}", b"00", load(BAD)[369:371])
 
 
+def void_in_partial():
+    """A void into a cell that is partial and has none, by level and year: where it is done, GDAL makes the same file."""
+    for level, latitude in ((0, 46), (1, 89), (2, 89)):
+        ours.write(level, latitude, 7, GOOD, 2)
+        whole = bytearray(load(GOOD))
+        whole[369:371] = b"01"
+        store(BAD, whole)
+        said = theirs.change(BAD, COLUMN, POST, ours.VOID)
+        changed, at = load(BAD), ours.post_at(level, COLUMN, POST)
+        done = []
+        for year in (1, 2):
+            store(GOOD, whole)
+            due = ("", changed) if year == 1 or level == 2 else ("refused 11 0", bytes(whole))
+            got = ours.edit(GOOD, COLUMN, POST, ours.VOID, year), load(GOOD)
+            check("edit.not_allowed", f"void, level {level}, year {year}", due, got)
+            done.append(got[0] or "does it")
+        lines = ours.judged(BAD)
+        fact("edit.not_allowed", f"void into a partial cell of level {level}: in year 1 dted_edit {done[0]}, in year 2 {done[1]}; GDAL says "
+             f"{theirs.kinds(said)} and writes it; intake in year 1: {lines[0]}; in year 2: {lines[1]}",
+             not said and lines[0].startswith("accepted ") and lines[1] == (lines[0] if level == 2 else f"refused 6 {at}"))
+
+
 def metadata():
     """Items changed through GDAL do not reach the cell."""
     whole, _ = good_cell()
@@ -157,5 +179,5 @@ def metadata():
 def run():
     print("== edits")
     for part in (on_good_cells, on_damaged_columns, ours_on_damaged_columns, the_damage_stays, whole_columns, negative_zero,
-                 not_allowed, metadata):
+                 not_allowed, void_in_partial, metadata):
         part()

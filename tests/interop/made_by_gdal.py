@@ -48,26 +48,26 @@ def mend(path):
 
 # ---- every level and zone ----
 
-def plain(name, latitude, longitude, columns, accepted):
+def plain(name, latitude, longitude, columns, lines):
     """As GDAL writes without being told more: a NUL in each accuracy."""
     check("theirs.silent", name, [], made(latitude, longitude, columns, {}))
     check("theirs.nul", name, b"NA\0 " * 4, load(PATH)[ACCURACIES])
-    check("theirs.plain", name, "refused 21 731", ours.judge(PATH))
+    check("theirs.plain", name, ("refused 21 731",) * 2, ours.judged(PATH))
     mend(PATH)
-    check("theirs.mended", name, accepted, ours.judge(PATH))
+    check("theirs.mended", name, lines, ours.judged(PATH))
 
 
-def told(name, latitude, longitude, columns, accepted):
+def told(name, latitude, longitude, columns, lines):
     """With the accuracies given as metadata of the source."""
     made(latitude, longitude, columns, theirs.NOT_AVAILABLE)
-    check("theirs.metadata", name, accepted, ours.judge(PATH))
+    check("theirs.metadata", name, lines, ours.judged(PATH))
 
 
 def same_posts(name, level, columns):
+    year, posts, every = ours.year_of(level, columns), columns.shape[1], places.LOOKED_UP[level]
     check("theirs.columns", name, True, load(PATH)[ours.HEADERS:] == load(OURS)[ours.HEADERS:])
-    every = places.LOOKED_UP[level]
-    check("theirs.words", name, True, np.array_equal(ours.posts(PATH, columns.shape[1]), columns))
-    check("theirs.lookups", name, True, np.array_equal(ours.lookups(PATH, columns.shape[1], every), columns[::every]))
+    check("theirs.words", name, True, np.array_equal(ours.posts(PATH, posts, year), columns))
+    check("theirs.lookups", name, True, np.array_equal(ours.lookups(PATH, posts, every, year), columns[::every]))
 
 
 def coverage(columns):
@@ -81,10 +81,10 @@ def one(level, latitude, longitude, seed):
     items = ours.items(level, latitude, longitude, seed)
     columns = ours.heights(seed, items[ours.PARTIAL] != 0, *ours.size(level, latitude))
     ours.write(level, latitude, longitude, OURS, seed)
-    accepted = f"accepted {level} {columns.shape[0]} {columns.shape[1]}"
-    plain(name, latitude, longitude, columns, accepted)
+    lines = ours.lines_of(level, columns)
+    plain(name, latitude, longitude, columns, lines)
     same_posts(name, level, columns)
-    told(name, latitude, longitude, columns, accepted)
+    told(name, latitude, longitude, columns, lines)
     same_posts(name, level, columns)
     made(latitude, longitude, columns, theirs.metadata_due(items))
     check("theirs.items", name, items[:ours.PARTIAL], ours.describe(PATH)[:ours.PARTIAL])
@@ -179,9 +179,10 @@ def lowest_number():
     raster = theirs.source(46, 7, columns, theirs.NOT_AVAILABLE)
     raster.GetRasterBand(1).SetNoDataValue(-32768)
     gdal.GetDriverByName("DTED").CreateCopy(PATH, raster)
-    word, line, read = load(PATH)[at:at + 2], ours.judge(PATH), int(ours.posts(PATH, 121)[column, post])
-    fact("theirs.no_data", f"the same as the source's no-data value: it writes {word.hex()}; intake: {line}, and the post reads {read}",
-         (word, line, read) == (b"\xff\xff", "accepted 0 121 121", ours.VOID))
+    word, lines, read = load(PATH)[at:at + 2], ours.judged(PATH), int(ours.posts(PATH, 121, 1)[column, post])
+    fact("theirs.no_data", f"the same as the source's no-data value: it writes {word.hex()}; intake in year 1: {lines[0]}, and the post "
+         f"reads {read}; in year 2: {lines[1]}",
+         (word, lines, read) == (b"\xff\xff", ("accepted 0 121 121", f"refused 6 {at}"), ours.VOID))
 
 
 def loose_metadata():

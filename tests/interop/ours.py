@@ -21,9 +21,9 @@ SEVERAL = (4, 12, 24, 28, 32, 167, 169, 221, 369, 731, 735, 739, 743)
 
 # ---- the tool ----
 
-def tool(*given, feed=None):
+def tool(year, *given, feed=None):
     """The tool's output; a fault of the command itself is raised."""
-    words = os.environ.get("RUN", "").split() + [os.environ["TOOL"]] + [str(word) for word in given]
+    words = os.environ.get("RUN", "").split() + [os.environ["TOOL"], str(year)] + [str(word) for word in given]
     done = subprocess.run(words, input=feed, capture_output=True, check=False)
     if done.returncode not in (0, 1):
         raise RuntimeError(done.stderr.decode())
@@ -31,42 +31,51 @@ def tool(*given, feed=None):
 
 
 def write(level, latitude, longitude, path, seed):
-    printed = tool("write", level, latitude, longitude, path, seed)
+    """In the year that allows the cell's voids; gives what the writer says in year 2, where it says anything."""
+    given = ("write", level, latitude, longitude, path, seed)
+    refused = tool(2, *given).decode().strip()
+    printed = tool(1, *given) if refused else b""
     if printed:
         raise RuntimeError(f"the writer: {printed.decode()}")
+    return refused
 
 
-def judge(path):
-    return tool("judge", path).decode().strip()
+def judge(path, year=2):
+    return tool(year, "judge", path).decode().strip()
+
+
+def judged(path):
+    """In year 1 and in year 2."""
+    return judge(path, 1), judge(path, 2)
 
 
 def describe(path):
-    line = tool("describe", path).decode().strip()
+    line = tool(2, "describe", path).decode().strip()
     return line if line.startswith("refused") else [int(word) for word in line.split()]
 
 
-def edit(path, column, post, height):
-    return tool("edit", path, column, post, height).decode().strip()
+def edit(path, column, post, height, year=2):
+    return tool(year, "edit", path, column, post, height).decode().strip()
 
 
 def heights_in(printed, posts_to_column):
     return np.frombuffer(printed, dtype=">i2").reshape(-1, posts_to_column).astype(np.int16)
 
 
-def posts(path, posts_to_column):
+def posts(path, posts_to_column, year=2):
     """Every height as it stands, a row for each column, south first."""
-    return heights_in(tool("posts", path), posts_to_column)
+    return heights_in(tool(year, "posts", path), posts_to_column)
 
 
-def lookups(path, posts_to_column, every):
+def lookups(path, posts_to_column, every, year=2):
     """Heights by lookup, a row for each everyth column."""
-    return heights_in(tool("lookups", path, every), posts_to_column)
+    return heights_in(tool(year, "lookups", path, every), posts_to_column)
 
 
 def positions(path, places):
     """The answer to each (latitude, longitude) in tenths: (column, post, height), or the refusal's line."""
     feed = "".join(f"{latitude} {longitude}\n" for latitude, longitude in places).encode()
-    lines = tool("position", path, feed=feed).decode().splitlines()
+    lines = tool(2, "position", path, feed=feed).decode().splitlines()
     return [line if line.startswith("refused") else tuple(int(word) for word in line.split()) for line in lines]
 
 
@@ -97,6 +106,24 @@ def column_at(level, column):
 
 def post_at(level, column, post):
     return column_at(level, column) + 8 + 2 * post
+
+
+# ---- voids and years ----
+
+def first_void(columns):
+    """Column and post of the first one, or None."""
+    return next(iter(np.argwhere(columns == VOID).tolist()), None)
+
+
+def year_of(level, columns):
+    """The year that takes a partial cell of these heights: 2, or 1 where it has voids below level 2."""
+    return 2 if level == 2 or first_void(columns) is None else 1
+
+
+def lines_of(level, columns):
+    """What is due of a good cell of these heights in year 1 and in year 2."""
+    accepted = f"accepted {level} {columns.shape[0]} {columns.shape[1]}"
+    return accepted, accepted if year_of(level, columns) == 2 else f"refused 6 {post_at(level, *first_void(columns))}"
 
 
 # ---- what a seed settles ----

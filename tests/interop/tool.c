@@ -1,13 +1,13 @@
 /* tool.c - a small host of the library for the tests against GDAL: writes, judges, reads and edits cells kept in files.
  *
- *   tool write LEVEL LATITUDE LONGITUDE OUT SEED   writes a cell; the seed settles its items and heights
- *   tool posts FILE                                every post as it stands in an accepted cell, 16 bits, high byte first
- *   tool lookups FILE EVERY                        the same for each EVERYth column, by lookup of each post
- *   tool judge FILE                                accepted LEVEL COLUMNS POSTS, or refused NUMBER PLACE
- *   tool describe FILE                             the thirteen items on one line, or refused NUMBER PLACE
- *   tool position FILE                             for each line LATITUDE LONGITUDE of standard input, in tenths of seconds:
- *                                                  COLUMN POST HEIGHT of the nearest post, or refused NUMBER PLACE
- *   tool edit FILE COLUMN POST HEIGHT              edits in place; prints where it was refused
+ *   tool YEAR write LEVEL LATITUDE LONGITUDE OUT SEED   writes a cell; the seed settles its items and heights
+ *   tool YEAR posts FILE                                every post as it stands in an accepted cell, 16 bits, high byte first
+ *   tool YEAR lookups FILE EVERY                        the same for each EVERYth column, by lookup of each post
+ *   tool YEAR judge FILE                                accepted LEVEL COLUMNS POSTS, or refused NUMBER PLACE
+ *   tool YEAR describe FILE                             the thirteen items on one line, or refused NUMBER PLACE; of no year
+ *   tool YEAR position FILE                             for each line LATITUDE LONGITUDE of standard input, in tenths of seconds:
+ *                                                       COLUMN POST HEIGHT of the nearest post, or refused NUMBER PLACE
+ *   tool YEAR edit FILE COLUMN POST HEIGHT              edits in place; prints where it was refused
  *
  * It ends with 0 where the library did not refuse, 1 where it did, 2 where the command or a file is at fault.
  */
@@ -23,6 +23,9 @@ struct bytes {
     uint8_t *at;
     size_t length;
 };
+
+/* The rule year that the calls name. */
+static uint32_t year;
 
 static void fail(const char *what) {
     fprintf(stderr, "tool: %s\n", what);
@@ -122,7 +125,7 @@ static int write_cell(char **given) {
         return 1;
     struct bytes grid = grid_of(seed, items[DTED_PARTIAL] != 0, size);
     struct bytes cell = room_for(dted_cell_length(size));
-    if (refused(dted_write(cell.at, cell.length, items, grid.at, grid.length)))
+    if (refused(dted_write(year, cell.at, cell.length, items, grid.at, grid.length)))
         return 1;
     write_file(given[3], cell);
     return 0;
@@ -136,7 +139,7 @@ static void put(int height) {
 
 static int posts(const char *path) {
     struct bytes cell = read_file(path);
-    dted_answer size = dted_intake(cell.at, cell.length);
+    dted_answer size = dted_intake(year, cell.at, cell.length);
     if (refused(size))
         return 1;
     for (unsigned column = 0; column < dted_columns(size); column++) {
@@ -149,12 +152,12 @@ static int posts(const char *path) {
 
 static int lookups(const char *path, unsigned every) {
     struct bytes cell = read_file(path);
-    dted_answer size = dted_intake(cell.at, cell.length);
+    dted_answer size = dted_intake(year, cell.at, cell.length);
     if (refused(size))
         return 1;
     for (unsigned column = 0; column < dted_columns(size); column += every)
         for (unsigned post = 0; post < dted_posts(size); post++) {
-            dted_answer answer = dted_post(cell.at, cell.length, column, post);
+            dted_answer answer = dted_post(year, cell.at, cell.length, column, post);
             if (refused(answer))
                 return 1;
             put(dted_height(answer));
@@ -164,7 +167,7 @@ static int lookups(const char *path, unsigned every) {
 
 static int judge(const char *path) {
     struct bytes cell = read_file(path);
-    dted_answer size = dted_intake(cell.at, cell.length);
+    dted_answer size = dted_intake(year, cell.at, cell.length);
     if (refused(size))
         return 1;
     printf("accepted %u %u %u\n", dted_level(size), dted_columns(size), dted_posts(size));
@@ -186,7 +189,7 @@ static int position(const char *path) {
     int64_t latitude, longitude;
     int any = 0;
     while (scanf("%" SCNd64 " %" SCNd64, &latitude, &longitude) == 2) {
-        dted_answer answer = dted_position(cell.at, cell.length, latitude, longitude);
+        dted_answer answer = dted_position(year, cell.at, cell.length, latitude, longitude);
         if (refused(answer))
             any = 1;
         else
@@ -198,27 +201,28 @@ static int position(const char *path) {
 static int edit(char **given) {
     struct bytes cell = read_file(given[0]);
     uint64_t column = strtoull(given[1], NULL, 10), post = strtoull(given[2], NULL, 10);
-    if (refused(dted_edit(cell.at, cell.length, column, post, atoll(given[3]))))
+    if (refused(dted_edit(year, cell.at, cell.length, column, post, atoll(given[3]))))
         return 1;
     write_file(given[0], cell);
     return 0;
 }
 
 int main(int count, char **given) {
-    const char *command = count > 1 ? given[1] : "";
-    if (count == 7 && strcmp(command, "write") == 0)
-        return write_cell(given + 2);
-    if (count == 3 && strcmp(command, "posts") == 0)
-        return posts(given[2]);
-    if (count == 4 && strcmp(command, "lookups") == 0 && atoi(given[3]) > 0)
-        return lookups(given[2], (unsigned)atoi(given[3]));
-    if (count == 3 && strcmp(command, "judge") == 0)
-        return judge(given[2]);
-    if (count == 3 && strcmp(command, "describe") == 0)
-        return describe(given[2]);
-    if (count == 3 && strcmp(command, "position") == 0)
-        return position(given[2]);
-    if (count == 6 && strcmp(command, "edit") == 0)
-        return edit(given + 2);
+    const char *command = count > 2 ? given[2] : "";
+    year = count > 1 ? (uint32_t)strtoul(given[1], NULL, 10) : 0;
+    if (count == 8 && strcmp(command, "write") == 0)
+        return write_cell(given + 3);
+    if (count == 4 && strcmp(command, "posts") == 0)
+        return posts(given[3]);
+    if (count == 5 && strcmp(command, "lookups") == 0 && atoi(given[4]) > 0)
+        return lookups(given[3], (unsigned)atoi(given[4]));
+    if (count == 4 && strcmp(command, "judge") == 0)
+        return judge(given[3]);
+    if (count == 4 && strcmp(command, "describe") == 0)
+        return describe(given[3]);
+    if (count == 4 && strcmp(command, "position") == 0)
+        return position(given[3]);
+    if (count == 7 && strcmp(command, "edit") == 0)
+        return edit(given + 3);
     fail("no such command: see the top of tool.c");
 }
