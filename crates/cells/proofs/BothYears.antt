@@ -1,23 +1,28 @@
--- V1: a cell under both years: one that year 2 accepts follows year 1's rules too; at level 2, or complete, it follows both or neither.
-use Prim.Native.Nat.{ℕ}
-use mathlib.Core.Path.{_≡_, refl, subst}
+-- V1: a cell under both years: one that follows year 2's rules follows year 1's; at level 2, complete or without voids, both years' or neither's.
+use Prim.Native.Nat.{ℕ, _<_}
+use mathlib.Core.Path.{_≡_, refl, sym, subst, _∙_}
 use mathlib.Core.Bool.{Bool, true, false}
 use mathlib.Core.List.{List}
 use Rattle.years.specs.declared.Year.{Year}
 use Rattle.years.specs.declared.Year.the-variants.{One, Two}
 use Rattle.layout.specs.declared.Frame.{Frame}
 use Rattle.posts.specs.Words.{wordAllowed}
+use Rattle.posts.proofs.PostWords.{other-word}
 use Rattle.posts.proofs.RoundTrip.{voids-more}
 use Rattle.headers.specs.Judged.{factsIn, frameIn}
 use Rattle.headers.proofs.Voids.{allowed-before}
-use Rattle.columns.specs.Column.{GoodColumn}
-use Rattle.cells.specs.Cell.{Framed, Cell}
+use Rattle.columns.specs.Column.{wordIn, GoodColumn}
+use Rattle.cells.specs.Cell.{columnAt, Framed, Cell}
 
 -- where more is allowed, a good column stays good
 wider : (a b : Bool) → (a ≡ true → b ≡ true) → (w : ℕ) → wordAllowed a w ≡ true → wordAllowed b w ≡ true
 wider true b more w e = rw (more refl) e
 wider false true more w e = voids-more w e
 wider false false more w e = e
+
+-- no post of the bytes is void
+abbrev pub NoVoids : List ℕ → Type 0
+NoVoids s = (k i : ℕ) → k < factsIn s .grid .columns → i < factsIn s .grid .posts → wordIn (columnAt s (factsIn s .grid) k) i ≡ 0xFFFF → ⊥
 
 module _ (s : List ℕ) where
   pub column-before : (column : List ℕ) (k posts : ℕ) → GoodColumn column k posts (frameIn Two s .voids) → GoodColumn column k posts (frameIn One s .voids)
@@ -31,6 +36,18 @@ module _ (s : List ℕ) where
   cell-before cell = record {
     headers = cell .headers;
     framed = record { long = cell .framed .long; columns = λ k h. column-before _ k _ (cell .framed .columns k h) };
+  }
+
+  -- where no post is void, whatever the partial indicator says
+  pub cell-without-voids : NoVoids s → (a b : Year) → Cell a s → Cell b s
+  cell-without-voids none a b cell = record {
+    headers = cell .headers;
+    framed = record {
+      long = cell .framed .long;
+      columns = λ k h.
+          let good = cell .framed .columns k h in
+          record { long = good .long; right = good .right; words = λ i u. sym (other-word (frameIn a s .voids) (frameIn b s .voids) _ (none k i h u)) ∙ good .words i u };
+    };
   }
 
   -- where two years give one frame, as at level 2

@@ -8,21 +8,29 @@ use lib.IntN.{ℤ}
 use contract.Lifetimes as L
 use denote.Ref.{now}
 use borrow.Fn.Kinds as K
+use lib.ListN.{length}
 use Rattle.answers.specs.Told.{told, intake, post, position, act}
 use Rattle.answers.proofs.Injective.{told-injective}
+use Rattle.answers.specs.declared.Outcome.{Outcome}
 use Rattle.years.specs.Years.{Names}
 use Rattle.years.specs.declared.Year.{Year}
 use Rattle.years.specs.declared.Year.the-variants.{One, Two}
+use Rattle.layout.specs.declared.Frame.{Frame}
 use Rattle.host_answers.specs.Packed.{packed}
 use Rattle.headers.specs.Judged.{judged, frameOf}
 use Rattle.headers.specs.declared.Facts.{Facts}
 use Rattle.headers.specs.declared.JudgedHeaders.the-variants.{Good}
 use Rattle.headers.proofs.Voids.{level-2-alike, complete-alike}
+use Rattle.description.specs.declared.Description.{Description}
+use Rattle.description.specs.Facts.{factsFor}
+use Rattle.description.specs.Items.{badItem}
+use Rattle.host_items.specs.Items.{badNumber, descriptionOf}
+use Rattle.sources.specs.Heights.{numbers, inBytes, heightsInBytes}
 use Rattle.cells.specs.Cell.{Cell}
 use Rattle.intake.specs.Intake.{taken}
 use Rattle.intake.proofs.CellExactly.{cell-accepted}
 use Rattle.intake.proofs.BothYears.{taken-alike}
-use Rattle.cells.proofs.BothYears.{cell-before}
+use Rattle.cells.proofs.BothYears.{NoVoids, cell-before, cell-without-voids}
 use Rattle.lookup.specs.Lookup.{readingOf, lookedUp}
 use Rattle.lookup.specs.declared.reach.Reached.{Reached}
 use Rattle.lookup.proofs.BothYears.{read-before, reached-alike}
@@ -35,8 +43,13 @@ use Rattle.lookup.proofs.look_up.Reads as post-call
 use Rattle.lookup.proofs.look_up.Kinds as post-kinds
 use Rattle.position.proofs.locate.Reads as position-call
 use Rattle.position.proofs.locate.Kinds as position-kinds
+use Rattle.column_writer.specs.Judged.{outputAfter}
+use Rattle.cell_writer.specs.Cell.{frameFor, afterItem, judgedUnder, judgedCellWrite, cellOf, cellTold, cellOutput}
+use Rattle.host_writers.specs.Cell.{judgedBytes, bytesTold, bytesOutput}
 use Rattle.edit.proofs.edit.Reads as edit-call
 use Rattle.edit.proofs.edit.Kinds as edit-kinds
+use Rattle.cell_writer.proofs.write.Reads as write-call
+use Rattle.cell_writer.proofs.write.Kinds as write-kinds
 use Rattle.dted.proofs.cells.dted_intake.Reads as host-intake-call
 use Rattle.dted.proofs.cells.dted_intake.Kinds as host-intake-kinds
 use Rattle.dted.proofs.cells.dted_post.Reads as host-post-call
@@ -45,7 +58,9 @@ use Rattle.dted.proofs.cells.dted_position.Reads as host-position-call
 use Rattle.dted.proofs.cells.dted_position.Kinds as host-position-kinds
 use Rattle.dted.proofs.cells.dted_edit.Reads as host-edit-call
 use Rattle.dted.proofs.cells.dted_edit.Kinds as host-edit-kinds
-use Rattle.demands.proofs.NamedYears.{intake-named, post-named, position-named, edit-named, host-intake-named, host-post-named, host-position-named, host-edit-named}
+use Rattle.dted.proofs.writers.dted_write.Reads as host-write-call
+use Rattle.dted.proofs.writers.dted_write.Kinds as host-write-kinds
+use Rattle.demands.proofs.NamedYears.{intake-named, post-named, position-named, edit-named, write-named, host-intake-named, host-post-named, host-position-named, host-edit-named, host-write-named}
 
 -- the years are alike to these bytes: good headers of theirs give one frame under both
 abbrev pub Alike : Year → Year → List ℕ → Type 0
@@ -72,6 +87,10 @@ year-2-as-1 l cell = record {
   post = λ c p. ap (told post) (read-before l cell c p);
   position = located-alike One Two l (read-before l cell);
 }
+
+-- and one that either accepts and that has no void, whatever its partial indicator says
+pub without-voids : (year : Year) (l : List ℕ) → NoVoids l → Cell year l → SameRead One Two l
+without-voids year l none cell = year-2-as-1 l (cell-without-voids l none year Two cell)
 
 pub alike-read : (x y : Year) (l : List ℕ) → Alike x y l → SameRead x y l
 unfolding lookedUp
@@ -159,4 +178,44 @@ host-edit-same x y κs κs' a b r q s t kept kept' n n' lent c p z same =
     let l = now (b .1 .0) in (
       one .0 ∙ ap packed ((λ k. editTold x (lent k) (c k) (p k) (z k)) ∙ told-same x y l same (b .1 .1 .0) (b .1 .1 .1 .0) (b .1 .1 .1 .1 .0)) ∙ sym (other .0),
       one .1 ∙ (λ k. edited x (lent k) (c k) (p k) (z k)) ∙ left-same x y l same (b .1 .1 .0) (b .1 .1 .1 .0) (b .1 .1 .1 .1 .0) ∙ sym (other .1),
+    )
+
+-- the years are alike to a description of level 2, or of a complete cell
+pub level-2-written : (x y : Year) (d : Description) → factsFor d .grid .level ≡ 2 → frameFor x d ≡ frameFor y d
+level-2-written x y d level = level-2-alike (factsFor d) x y level
+
+pub complete-written : (x y : Year) (d : Description) → factsFor d .partial ≡ 0 → frameFor x d ≡ frameFor y d
+complete-written x y d none = complete-alike (factsFor d) x y none
+
+-- of such a one the writer answers the same, and leaves the same output
+pub write-same : (x y : Year) (κs κs' : L.Lfts 2) (a : K.Dens κs write-kinds.ps) (b : K.Dens κs' write-kinds.ps) (r q : _) (s t : _)
+    → write-call.Post κs a r s → write-call.Post κs' b q t → Names (a .0) x → Names (b .0) y → now (a .1 .0) ≡ now (b .1 .0)
+    → a .1 .1 .0 ≡ b .1 .1 .0 → now (a .1 .1 .1 .0) ≡ now (b .1 .1 .1 .0) → frameFor x (b .1 .1 .0) ≡ frameFor y (b .1 .1 .0)
+    → (r ≡ q) × (now (s .1 .0) ≡ now (t .1 .0))
+unfolding cellTold cellOutput judgedCellWrite
+write-same x y κs κs' a b r q s t kept kept' n n' out description heights same =
+    let one = write-named κs a r s kept x n in
+    let other = write-named κs' b q t kept' y n' in
+    let d = b .1 .1 .0 in
+    let zs = now (b .1 .1 .1 .0) in
+    let o = now (b .1 .0) in
+    let judged = ap (λ (f : Frame). afterItem (badItem d) (judgedUnder f (numbers zs) (length o))) same in (
+      told-injective act r q (one .0 ∙ (λ k. cellTold x (description k) (heights k) (out k)) ∙ ap (told act) judged ∙ sym (other .0)),
+      one .1 ∙ (λ k. cellOutput x (description k) (heights k) (out k)) ∙ ap (λ (z : Outcome). outputAfter z (cellOf d zs) o) judged ∙ sym (other .1),
+    )
+
+pub host-write-same : (x y : Year) (κs κs' : L.Lfts 3) (a : K.Dens κs host-write-kinds.ps) (b : K.Dens κs' host-write-kinds.ps) (r q : _) (s t : _)
+    → host-write-call.Post κs a r s → host-write-call.Post κs' b q t → Names (a .0) x → Names (b .0) y → now (a .1 .0) ≡ now (b .1 .0)
+    → now (a .1 .1 .0) ≡ now (b .1 .1 .0) → now (a .1 .1 .1 .0) ≡ now (b .1 .1 .1 .0) → frameFor x (descriptionOf (now (b .1 .1 .0))) ≡ frameFor y (descriptionOf (now (b .1 .1 .0)))
+    → (r ≡ q) × (now (s .1 .0) ≡ now (t .1 .0))
+unfolding bytesTold bytesOutput judgedBytes
+host-write-same x y κs κs' a b r q s t kept kept' n n' out items grid same =
+    let one = host-write-named κs a r s kept x n in
+    let other = host-write-named κs' b q t kept' y n' in
+    let given = now (b .1 .1 .0) in
+    let bytes = now (b .1 .1 .1 .0) in
+    let o = now (b .1 .0) in
+    let judged = ap (λ (f : Frame). afterItem (badNumber given) (judgedUnder f (inBytes bytes) (length o))) same in (
+      one .0 ∙ ap packed ((λ k. bytesTold x (items k) (grid k) (out k)) ∙ ap (told act) judged) ∙ sym (other .0),
+      one .1 ∙ (λ k. bytesOutput x (items k) (grid k) (out k)) ∙ ap (λ (z : Outcome). outputAfter z (cellOf (descriptionOf given) (heightsInBytes bytes)) o) judged ∙ sym (other .1),
     )

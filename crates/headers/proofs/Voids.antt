@@ -24,7 +24,11 @@ module _ (f : Facts) where
   pub partial-some : (f .partial ≡ 0 → ⊥) → frameOf One f .voids ≡ true
   partial-some other = rw (ne-eqb (f .partial) 0 other)
 
-  -- the year counts only in a partial cell of another level
+  -- year 2: none at another level than 2
+  pub lower-none : (f .grid .level ≡ 2 → ⊥) → frameOf Two f .voids ≡ false
+  lower-none other = ap (both (isPartial f)) (ne-eqb (f .grid .level) 2 other) ∙ both-none (isPartial f)
+
+  -- under either, none in a complete cell, and at level 2 some in a partial one
   pub complete-none : (year : Year) → f .partial ≡ 0 → frameOf year f .voids ≡ false
   complete-none One e = rw (eq-eqb (f .partial) 0 e)
   complete-none Two e = rw (eq-eqb (f .partial) 0 e)
@@ -35,10 +39,6 @@ module _ (f : Facts) where
 
   pub level-2-some : (year : Year) → f .grid .level ≡ 2 → (f .partial ≡ 0 → ⊥) → frameOf year f .voids ≡ true
   level-2-some year level other = at-level-2 year level ∙ partial-some other
-
-  -- and there year 2 allows none
-  pub lower-none : (f .grid .level ≡ 2 → ⊥) → frameOf Two f .voids ≡ false
-  lower-none other = ap (both (isPartial f)) (ne-eqb (f .grid .level) 2 other) ∙ both-none (isPartial f)
 
   -- what year 2 allows, year 1 does
   pub allowed-before : voidsAllowed Two f ≡ true → voidsAllowed One f ≡ true

@@ -61,3 +61,8 @@ up-word z n e = rw e
 pub down-word : (z : ℤ) (n : ℕ) → z ≡ negsuc n → 0x8000 + (n % 0x8000 + 1) % 0x8000 ≡ wordOf z
 unfolding wordOf
 down-word z n e = rw e (ap (λ (m : ℕ). 0x8000 + m) (mod-add-mod n 0x8000 1))
+
+-- where voids are allowed counts for void alone
+pub other-word : (a b : Bool) (w : ℕ) → (w ≡ 0xFFFF → ⊥) → wordAllowed a w ≡ wordAllowed b w
+unfolding wordAllowed
+other-word a b w other = rw (ne-eqb w 0xFFFF other)

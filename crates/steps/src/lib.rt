@@ -70,16 +70,10 @@ fn column_answer(frame: Frame, next: usize, piece: &[u8]) -> Verdict
 fn columns_answer(due: ColumnsDue, piece: &[u8]) -> Verdict
     ensures { λ r. ⌜ told.told told.intake r ≡ saidOf (Phase.Columns due) (now (piece .entry)) ⌝ }
 {
+    let voids = due.voids;
     let laid = layout::lay(due.level, due.edge);
     match laid {
-        Laid::Out(grid) => column_answer(
-            Frame {
-                grid,
-                voids: due.voids,
-            },
-            due.next,
-            piece,
-        ),
+        Laid::Out(grid) => column_answer(Frame { grid, voids }, due.next, piece),
         Laid::NoLevel => Verdict::Refused(Refusal::OffGrid),
         Laid::NoZone => Verdict::Refused(Refusal::OffGrid),
     }

@@ -2,8 +2,8 @@
 use Prim.Native.Nat.{ℕ, _≤_}
 use native.Mathlib.Omega.{arith}
 use mathlib.Core.Path.{_≡_, refl, sym, ap, subst, _∙_}
-use borrow.Author.Tests.{ne-eqb}
 use mathlib.Core.List.{List}
+use borrow.Author.Tests.{ne-eqb}
 use Rattle.octets.proofs.ChoiceLaws.{by-equal}
 use Rattle.answers.specs.Told.{Told, refused}
 use Rattle.years.specs.declared.Year.{Year}
@@ -50,11 +50,11 @@ none-is n e instead call = ap (λ (m : Named). byNamed m instead call) e
 
 -- so of what a call tells, and of the bytes that it leaves
 module _ (n : ℕ) (tells : Year → Told) where
-  pub under-named : (year : Year) → Names n year → under n tells ≡ tells year
-  under-named year e = named-is n year e (refused 17 n) tells
-
   pub under-none : NamesNone n → under n tells ≡ refused 17 n
   under-none e = none-is n e (refused 17 n) tells
+
+  pub under-named : (year : Year) → Names n year → under n tells ≡ tells year
+  under-named year e = named-is n year e (refused 17 n) tells
 
 module _ (n : ℕ) (s : List ℕ) (leaves : Year → List ℕ) where
   pub left-named : (year : Year) → Names n year → leftUnder n s leaves ≡ leaves year
