@@ -71,11 +71,11 @@ enum {
 /* Heights are metres, -12,000 to 9,000. A post without a height is this; the rule year says which cells may hold it. */
 #define DTED_VOID (-32767)
 
-/* Rule years, of which a call that judges, looks up, edits or writes posts is given one. A cell may hold voids
+/* Rule years: dted_intake, both lookups, dted_edit and dted_write are given one. A cell may hold voids
  *   under DTED_YEAR_1 where its DTED_PARTIAL is not 0,
  *   under DTED_YEAR_2 where that is so and it is of level 2, as the DTED performance specification asks (3.5.4, 3.5.5).
  * Nothing else depends on the year. A void that is stored elsewhere is DTED_WORD, one that is given there DTED_HEIGHT. DTED_PARTIAL
- * itself is not judged by the year: a cell that holds no void is judged alike under both.
+ * itself is not judged by the year: a cell that holds no void is accepted under both or neither.
  * A host names DTED_YEAR_2 for every delivery since the year of version 0.5.0, and DTED_YEAR_1 for older ones, whose cells of levels 0
  * and 1 may hold voids. A cell that is accepted under DTED_YEAR_2 is accepted under DTED_YEAR_1 too, with equal posts; so a host that does
  * not know how old a file is judges it under DTED_YEAR_2, and where that is refused as DTED_WORD may take DTED_YEAR_1, knowingly.

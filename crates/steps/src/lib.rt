@@ -2,14 +2,15 @@
 ghost use mathlib.Core.Path.{_≡_};
 ghost use Prim.Native.Nat.{_≤_};
 ghost use Rattle.answers.specs.Told as told;
-ghost use Rattle.layout.specs.Ranges.{Ranged};
 ghost use Rattle.headers.specs.Judged.{judged};
-ghost use Rattle.steps.specs.Steps.{saidOf, saidOfHeaders, saidOfColumn, dueAfter, afterAnswer, Step, wanted};
+ghost use Rattle.steps.specs.Steps.{saidOf, saidOfHeaders, dueAfter, afterAnswer, Step, wanted};
+
+pub mod piece;
+
+use crate::piece::column_answer;
 use answers::Refusal;
 use answers::Verdict;
-use columns::JudgedColumn;
 use headers::judge::frame_of;
-use intake::end;
 use layout::Frame;
 use layout::HEADER_BYTES;
 use layout::Laid;
@@ -41,29 +42,6 @@ pub struct Steps {
 pub struct Stepped {
     pub steps: Steps,
     pub answer: Verdict,
-}
-
-// What a piece answers where column `next` under the frame is due, or where none is left.
-fn column_answer(frame: Frame, next: usize, piece: &[u8]) -> Verdict
-    requires { ⌜ Ranged (frame .grid) ⌝ }
-    ensures { λ r. ⌜ told.told told.intake r ≡ saidOfColumn frame next (now (piece .entry)) ⌝ }
-{
-    let grid = frame.grid;
-    let bytes = grid.bytes;
-    let size = bytes.column;
-    if grid.columns <= next {
-        return end(bytes.cell + piece.len(), grid);
-    }
-    let base = HEADER_BYTES + next * size;
-    if piece.len() < size {
-        return Verdict::Refused(Refusal::Cut(base));
-    }
-    let posts = grid.posts;
-    let judged = columns::judge(&piece[..size], next, posts, frame.voids, base);
-    match judged {
-        JudgedColumn::Good => Verdict::More,
-        JudgedColumn::Refused(refusal) => Verdict::Refused(refusal),
-    }
 }
 
 // What a piece answers where columns are due; any level, edge and number.

@@ -4,8 +4,8 @@ use Rattle.answers.specs.Told.{more}
 use Rattle.columns.specs.declared.JudgedColumn.{JudgedColumn}
 use Rattle.intake.specs.Intake.{orRest}
 use Rattle.steps.proofs.Pieces.{piece-past, piece-short, piece-judged}
-use Rattle.steps.proofs.column_answer.Statement.{statement}
-use Rattle.steps.proofs.column_answer.Tie as tie
+use Rattle.steps.proofs.piece.column_answer.Statement.{statement}
+use Rattle.steps.proofs.piece.column_answer.Tie as tie
 use Rattle.steps.specs.Steps.{saidOfColumn}
 use borrow.Author.Needs.{needs}
 use lib.Seq.{length-take-le}
