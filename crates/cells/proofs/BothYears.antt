@@ -10,7 +10,7 @@ use Rattle.posts.specs.Words.{wordAllowed}
 use Rattle.posts.proofs.PostWords.{other-word}
 use Rattle.posts.proofs.RoundTrip.{voids-more}
 use Rattle.headers.specs.Judged.{factsIn, frameIn}
-use Rattle.headers.proofs.Voids.{allowed-before}
+use Rattle.headers.proofs.Voids.{allowed-before, level-2-alike, complete-alike}
 use Rattle.columns.specs.Column.{wordIn, GoodColumn}
 use Rattle.cells.specs.Cell.{columnAt, Framed, Cell}
 
@@ -50,6 +50,12 @@ module _ (s : List ℕ) where
     };
   }
 
-  -- where two years give one frame, as at level 2
-  pub cell-alike : (a b : Year) → frameIn a s ≡ frameIn b s → Cell a s → Cell b s
-  cell-alike a b same cell = record { headers = cell .headers; framed = subst (λ (f : Frame). Framed f s) same (cell .framed) }
+  -- where two years give one frame: at level 2, and of a complete cell
+  one-frame : (a b : Year) → frameIn a s ≡ frameIn b s → Cell a s → Cell b s
+  one-frame a b same cell = record { headers = cell .headers; framed = subst (λ (f : Frame). Framed f s) same (cell .framed) }
+
+  pub level-2-cell : factsIn s .grid .level ≡ 2 → (a b : Year) → Cell a s → Cell b s
+  level-2-cell level a b = one-frame a b (level-2-alike (factsIn s) a b level)
+
+  pub complete-cell : factsIn s .partial ≡ 0 → (a b : Year) → Cell a s → Cell b s
+  complete-cell none a b = one-frame a b (complete-alike (factsIn s) a b none)

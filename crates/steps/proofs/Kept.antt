@@ -41,15 +41,15 @@ pub kept : (phase : Phase) (piece : List ℕ) (v a : Verdict) (later : Phase) �
     → a ≡ v → later ≡ Over v → Step phase piece a later
 kept phase piece v a later o e p q = record { said = ap (told intake) p ∙ e; state = q ∙ sym (ap (after phase piece) p ∙ o) }
 
--- the first step, under a year that there is
+-- the first step, where no year was named, and under one
+pub said-none : (n : ℕ) → NamesNone n → (piece : List ℕ) → saidOf (Headers n) piece ≡ refused 17 n
+said-none n none piece = none-is n none (refused 17 n) (λ (year : Year). saidOfHeaders (judged piece))
+
 pub said-first : (n : ℕ) (year : Year) → Names n year → (piece : List ℕ) → saidOf (Headers n) piece ≡ saidOfHeaders (judged piece)
 said-first n year named piece = named-is n year named (refused 17 n) (λ (y : Year). saidOfHeaders (judged piece))
 
 pub due-first : (n : ℕ) (year : Year) → Names n year → (piece : List ℕ) → advanced (Headers n) piece ≡ dueAfter year (judged piece)
 due-first n year named piece = named-is n year named (Over (verdict.Refused (because.Year n))) (λ (y : Year). dueAfter y (judged piece))
-
-pub said-none : (n : ℕ) → NamesNone n → (piece : List ℕ) → saidOf (Headers n) piece ≡ refused 17 n
-said-none n none piece = none-is n none (refused 17 n) (λ (year : Year). saidOfHeaders (judged piece))
 
 -- so its promise, by what was done under that year, or that there was none
 pub first-kept : (n : ℕ) (year : Year) → Names n year → (piece : List ℕ) (answer : Verdict) (later : Phase)
