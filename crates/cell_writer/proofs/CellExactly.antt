@@ -6,8 +6,10 @@ use Rattle.answers.specs.declared.Outcome.{Outcome}
 use Rattle.answers.specs.declared.Outcome.the-variants.{Done}
 use Rattle.years.specs.declared.Year.{Year}
 use Rattle.layout.specs.declared.Frame.{Frame}
+use Rattle.headers.specs.Judged.{frameOf}
 use Rattle.description.specs.Items.{itemTests, badItem, inRange}
 use Rattle.description.specs.declared.Description.{Description}
+use Rattle.description.specs.Facts.{factsFor}
 use Rattle.sources.specs.Heights.{Heights}
 use Rattle.column_writer.proofs.PostsExactly.{PostsRow, posts-given, posts-row, Fine, posts-fine}
 use Rattle.cell_writer.specs.Cell.{postsDue, frameFor, judgedUnder, judgedCellWrite}
@@ -37,7 +39,7 @@ module _ (f : Frame) (g : Heights) (room : ℕ) where
 module _ (year : Year) (d : Description) (g : Heights) (room : ℕ) where
   -- 9 with the lowest item, then 10, 11, 12, or done
   abbrev pub CellRow : Outcome → Type 0
-  CellRow = ItemRow (itemTests d) (UnderRow (frameFor year d) g room)
+  CellRow = ItemRow (itemTests d) (UnderRow (frameOf year (factsFor d)) g room)
 
   -- every row's answer is given
   pub given : (x : Outcome) → CellRow x → judgedCellWrite year d g room ≡ x
@@ -56,7 +58,7 @@ module _ (year : Year) (d : Description) (g : Heights) (room : ℕ) where
 -- what an accepted call was given
 pub record Ready (year : Year) (d : Description) (g : Heights) (room : ℕ) : Type 0 where
   pub ranged : inRange d ≡ true
-  pub fine : UnderFine (frameFor year d) g room
+  pub fine : UnderFine (frameOf year (factsFor d)) g room
 
 pub ready : (year : Year) (d : Description) (g : Heights) (room : ℕ) → judgedCellWrite year d g room ≡ Done → Ready year d g room
 unfolding judgedCellWrite

@@ -1,7 +1,7 @@
 -- V1: a cell under both years: one that follows year 2's rules follows year 1's; at level 2, complete or without voids, both years' or neither's.
 use Prim.Native.Nat.{ℕ, _<_}
 use mathlib.Core.Path.{_≡_, refl, sym, subst, _∙_}
-use mathlib.Core.Bool.{Bool, true, false}
+use mathlib.Core.Bool.{Bool, true, false, true≢false}
 use mathlib.Core.List.{List}
 use Rattle.years.specs.declared.Year.{Year}
 use Rattle.years.specs.declared.Year.the-variants.{One, Two}
@@ -10,7 +10,7 @@ use Rattle.posts.specs.Words.{wordAllowed}
 use Rattle.posts.proofs.PostWords.{other-word}
 use Rattle.posts.proofs.RoundTrip.{voids-more}
 use Rattle.headers.specs.Judged.{factsIn, frameIn}
-use Rattle.headers.proofs.Voids.{allowed-before, level-2-alike, complete-alike}
+use Rattle.headers.proofs.Voids.{lower-none, allowed-before, level-2-alike, complete-alike}
 use Rattle.columns.specs.Column.{wordIn, GoodColumn}
 use Rattle.cells.specs.Cell.{columnAt, Framed, Cell}
 
@@ -49,6 +49,13 @@ module _ (s : List ℕ) where
           record { long = good .long; right = good .right; words = λ i u. sym (other-word (frameIn a s .voids) (frameIn b s .voids) _ (none k i h u)) ∙ good .words i u };
     };
   }
+
+  -- below level 2 that is all that year 2 takes away: its cells have no void, whatever the partial indicator says
+  pub lower-without-voids : (factsIn s .grid .level ≡ 2 → ⊥) → Cell Two s → NoVoids s
+  unfolding wordAllowed
+  lower-without-voids other cell k i h u void =
+      let allowed = rw (lower-none (factsIn s) other, void) at (cell .framed .columns k h .words i u) in
+      true≢false (sym allowed)
 
   -- where two years give one frame: at level 2, and of a complete cell
   one-frame : (a b : Year) → frameIn a s ≡ frameIn b s → Cell a s → Cell b s

@@ -2,24 +2,26 @@
 -- answer, and each lookup on it answers the same under both; where the headers are those of level 2, or of a complete cell, every call answers and
 -- leaves the same under any two years, whatever the bytes are.
 use Prim.Native.Nat.{ℕ}
-use mathlib.Core.Path.{_≡_, sym, ap, _∙_}
+use mathlib.Core.Path.{_≡_, refl, sym, ap, _∙_}
 use mathlib.Core.List.{List}
 use lib.IntN.{ℤ}
 use contract.Lifetimes as L
 use denote.Ref.{now}
 use borrow.Fn.Kinds as K
 use lib.ListN.{length}
-use Rattle.answers.specs.Told.{told, intake, post, position, act}
+use Rattle.answers.specs.Told.{told, intake, post, position, act, numberTold}
 use Rattle.answers.proofs.Injective.{told-injective}
 use Rattle.answers.specs.declared.Outcome.{Outcome}
 use Rattle.years.specs.Years.{Names}
 use Rattle.years.specs.declared.Year.{Year}
 use Rattle.years.specs.declared.Year.the-variants.{One, Two}
 use Rattle.layout.specs.declared.Frame.{Frame}
+use Rattle.layout.specs.Zones.{edgeOf}
 use Rattle.host_answers.specs.Packed.{packed}
-use Rattle.headers.specs.Judged.{judged, frameOf}
+use Rattle.headers.specs.Judged.{judged, frameOf, factsIn}
 use Rattle.headers.specs.declared.Facts.{Facts}
-use Rattle.headers.specs.declared.JudgedHeaders.the-variants.{Good}
+use Rattle.headers.specs.declared.JudgedHeaders.{JudgedHeaders}
+use Rattle.headers.specs.declared.JudgedHeaders.the-variants.{Good, Refused}
 use Rattle.headers.proofs.Voids.{level-2-alike, complete-alike}
 use Rattle.description.specs.declared.Description.{Description}
 use Rattle.description.specs.Facts.{factsFor}
@@ -30,15 +32,21 @@ use Rattle.cells.specs.Cell.{Cell}
 use Rattle.intake.specs.Intake.{taken}
 use Rattle.intake.proofs.CellExactly.{cell-accepted}
 use Rattle.intake.proofs.BothYears.{taken-alike}
-use Rattle.cells.proofs.BothYears.{NoVoids, cell-before, cell-without-voids}
+use Rattle.cells.proofs.BothYears.{NoVoids, cell-before, cell-without-voids, lower-without-voids}
 use Rattle.lookup.specs.Lookup.{readingOf, lookedUp}
 use Rattle.lookup.specs.declared.reach.Reached.{Reached}
 use Rattle.lookup.proofs.BothYears.{read-before, reached-alike}
 use Rattle.position.specs.Position.{located}
 use Rattle.position.proofs.BothYears.{located-alike}
 use Rattle.edit.specs.Edit.{judgedAt, editedAt, judgedEdit, editTold, edited}
+use Rattle.steps.specs.Steps.{dueAfter, afterAnswer}
+use Rattle.steps.specs.declared.Phase.{Phase}
+use Rattle.steps.specs.declared.Phase.the-variants.{Headers, Columns}
+use Rattle.steps.proofs.Kept.{said-first, due-first}
 use Rattle.intake.proofs.intake.Reads as intake-call
 use Rattle.intake.proofs.intake.Kinds as intake-kinds
+use Rattle.steps.proofs.Steps.step.Reads as step-call
+use Rattle.steps.proofs.Steps.step.Kinds as step-kinds
 use Rattle.lookup.proofs.look_up.Reads as post-call
 use Rattle.lookup.proofs.look_up.Kinds as post-kinds
 use Rattle.position.proofs.locate.Reads as position-call
@@ -50,6 +58,9 @@ use Rattle.edit.proofs.edit.Reads as edit-call
 use Rattle.edit.proofs.edit.Kinds as edit-kinds
 use Rattle.cell_writer.proofs.write.Reads as write-call
 use Rattle.cell_writer.proofs.write.Kinds as write-kinds
+use Rattle.host_writers.proofs.cell.write.Reads as bytes-call
+use Rattle.host_writers.proofs.cell.write.Kinds as bytes-kinds
+use Rattle.host_answers.specs.Apart.{numberIn}
 use Rattle.dted.proofs.cells.dted_intake.Reads as host-intake-call
 use Rattle.dted.proofs.cells.dted_intake.Kinds as host-intake-kinds
 use Rattle.dted.proofs.cells.dted_post.Reads as host-post-call
@@ -60,7 +71,8 @@ use Rattle.dted.proofs.cells.dted_edit.Reads as host-edit-call
 use Rattle.dted.proofs.cells.dted_edit.Kinds as host-edit-kinds
 use Rattle.dted.proofs.writers.dted_write.Reads as host-write-call
 use Rattle.dted.proofs.writers.dted_write.Kinds as host-write-kinds
-use Rattle.demands.proofs.NamedYears.{intake-named, post-named, position-named, edit-named, write-named, host-intake-named, host-post-named, host-position-named, host-edit-named, host-write-named}
+use Rattle.demands.proofs.CellsTaken.{accepted-cell, host-accepted-cell}
+use Rattle.demands.proofs.NamedYears.{intake-named, post-named, position-named, edit-named, write-named, bytes-named, host-intake-named, host-post-named, host-position-named, host-edit-named, host-write-named}
 
 -- the years are alike to these bytes: good headers of theirs give one frame under both
 abbrev pub Alike : Year → Year → List ℕ → Type 0
@@ -87,6 +99,23 @@ year-2-as-1 l cell = record {
   post = λ c p. ap (told post) (read-before l cell c p);
   position = located-alike One Two l (read-before l cell);
 }
+
+-- as a call of intake has answered it, inner or exported; and below level 2 it has no void
+module _ (κs : L.Lfts 1) (a : K.Dens κs intake-kinds.ps) (r : _) (s : _) (kept : intake-call.Post κs a r s) (names : Names (a .0) Two)
+    (fine : numberTold (told intake r) ≡ 0) where
+  pub accepted-read : SameRead One Two (now (a .1 .0))
+  accepted-read = year-2-as-1 (now (a .1 .0)) (accepted-cell κs a r s kept Two names fine)
+
+  pub accepted-without-voids : (factsIn (now (a .1 .0)) .grid .level ≡ 2 → ⊥) → NoVoids (now (a .1 .0))
+  accepted-without-voids other = lower-without-voids (now (a .1 .0)) other (accepted-cell κs a r s kept Two names fine)
+
+module _ (κs : L.Lfts 1) (a : K.Dens κs host-intake-kinds.ps) (r : _) (s : _) (kept : host-intake-call.Post κs a r s) (names : Names (a .0) Two)
+    (fine : numberIn r ≡ 0) where
+  pub host-accepted-read : SameRead One Two (now (a .1 .0))
+  host-accepted-read = year-2-as-1 (now (a .1 .0)) (host-accepted-cell κs a r s kept Two names fine)
+
+  pub host-accepted-without-voids : (factsIn (now (a .1 .0)) .grid .level ≡ 2 → ⊥) → NoVoids (now (a .1 .0))
+  host-accepted-without-voids other = lower-without-voids (now (a .1 .0)) other (host-accepted-cell κs a r s kept Two names fine)
 
 -- and one that either accepts and that has no void, whatever its partial indicator says
 pub without-voids : (year : Year) (l : List ℕ) → NoVoids l → Cell year l → SameRead One Two l
@@ -144,6 +173,25 @@ module _ (x y : Year) where
   host-position-same κs κs' a b r q s t kept kept' n n' lent north east same =
       host-position-named κs a r s kept x n ∙ ap packed ((λ k. located x (lent k) (north k) (east k)) ∙ same .position (b .1 .1 .0) (b .1 .1 .1 .0))
       ∙ sym (host-position-named κs' b q t kept' y n')
+
+-- the first step, of a piece to which the years are alike: its answer, and the state that it hands back
+due-same : (x y : Year) (j : JudgedHeaders) → ((f : Facts) → j ≡ Good f → frameOf x f ≡ frameOf y f) → dueAfter x j ≡ dueAfter y j
+due-same x y (Refused r) same = refl
+due-same x y (Good f) same =
+    ap (λ (g : Frame). Columns (record { level = f .grid .level; edge = edgeOf (f .latitude); voids = g .voids; next = 0 })) (same f refl)
+
+pub step-same : (x y : Year) (κs κs' : L.Lfts 1) (a : K.Dens κs step-kinds.ps) (b : K.Dens κs' step-kinds.ps) (r q : _) (s t : _)
+    → step-call.Post κs a r s → step-call.Post κs' b q t → (m n : ℕ) → a .0 .phase ≡ Headers m → b .0 .phase ≡ Headers n → Names m x → Names n y
+    → now (a .1 .0) ≡ now (b .1 .0) → Alike x y (now (b .1 .0)) → (r .answer ≡ q .answer) × (r .steps .phase ≡ q .steps .phase)
+step-same x y κs κs' a b r q s t kept kept' m n first first' names names' lent same =
+    let l = now (b .1 .0) in
+    let said : r .answer ≡ q .answer =
+    told-injective intake (r .answer) (q .answer)
+    (rw (first, lent) at (kept .said) ∙ said-first m x names l ∙ sym (rw first' at (kept' .said) ∙ said-first n y names' l))
+    in
+    let one = rw (first, lent) at (kept .state) ∙ ap (λ (p : Phase). afterAnswer p (r .answer)) (due-first m x names l) in
+    let other = rw first' at (kept' .state) ∙ ap (λ (p : Phase). afterAnswer p (q .answer)) (due-first n y names' l) in
+    (said, one ∙ (λ k. afterAnswer (due-same x y (judged l) same k) (said k)) ∙ sym other)
 
 -- an edit of bytes to which the years are alike: its answer, and what it leaves
 module _ (x y : Year) (l : List ℕ) (same : Alike x y l) (c p : ℕ) (z : ℤ) where
@@ -204,18 +252,43 @@ write-same x y κs κs' a b r q s t kept kept' n n' out description heights same
       one .1 ∙ (λ k. cellOutput x (description k) (heights k) (out k)) ∙ ap (λ (z : Outcome). outputAfter z (cellOf d zs) o) judged ∙ sym (other .1),
     )
 
+module _ (x y : Year) (items : List ℤ) (grid out : List ℕ) (same : frameFor x (descriptionOf items) ≡ frameFor y (descriptionOf items)) where
+  judged-same : judgedBytes x items grid (length out) ≡ judgedBytes y items grid (length out)
+  unfolding judgedBytes
+  judged-same = ap (λ (f : Frame). afterItem (badNumber items) (judgedUnder f (inBytes grid) (length out))) same
+
+  bytes-told-same : bytesTold x items grid out ≡ bytesTold y items grid out
+  unfolding bytesTold
+  bytes-told-same = ap (told act) judged-same
+
+  bytes-left-same : bytesOutput x items grid out ≡ bytesOutput y items grid out
+  unfolding bytesOutput
+  bytes-left-same = ap (λ (z : Outcome). outputAfter z (cellOf (descriptionOf items) (heightsInBytes grid)) out) judged-same
+
+pub bytes-same : (x y : Year) (κs κs' : L.Lfts 3) (a : K.Dens κs bytes-kinds.ps) (b : K.Dens κs' bytes-kinds.ps) (r q : _) (s t : _)
+    → bytes-call.Post κs a r s → bytes-call.Post κs' b q t → Names (a .0) x → Names (b .0) y → now (a .1 .0) ≡ now (b .1 .0)
+    → now (a .1 .1 .0) ≡ now (b .1 .1 .0) → now (a .1 .1 .1 .0) ≡ now (b .1 .1 .1 .0)
+    → frameFor x (descriptionOf (now (b .1 .1 .0))) ≡ frameFor y (descriptionOf (now (b .1 .1 .0))) → (r ≡ q) × (now (s .1 .0) ≡ now (t .1 .0))
+bytes-same x y κs κs' a b r q s t kept kept' n n' out items grid same =
+    let one = bytes-named κs a r s kept x n in
+    let other = bytes-named κs' b q t kept' y n' in
+    let given = now (b .1 .1 .0) in
+    let bytes = now (b .1 .1 .1 .0) in
+    let o = now (b .1 .0) in (
+      told-injective act r q (one .0 ∙ (λ k. bytesTold x (items k) (grid k) (out k)) ∙ bytes-told-same x y given bytes o same ∙ sym (other .0)),
+      one .1 ∙ (λ k. bytesOutput x (items k) (grid k) (out k)) ∙ bytes-left-same x y given bytes o same ∙ sym (other .1),
+    )
+
 pub host-write-same : (x y : Year) (κs κs' : L.Lfts 3) (a : K.Dens κs host-write-kinds.ps) (b : K.Dens κs' host-write-kinds.ps) (r q : _) (s t : _)
     → host-write-call.Post κs a r s → host-write-call.Post κs' b q t → Names (a .0) x → Names (b .0) y → now (a .1 .0) ≡ now (b .1 .0)
-    → now (a .1 .1 .0) ≡ now (b .1 .1 .0) → now (a .1 .1 .1 .0) ≡ now (b .1 .1 .1 .0) → frameFor x (descriptionOf (now (b .1 .1 .0))) ≡ frameFor y (descriptionOf (now (b .1 .1 .0)))
-    → (r ≡ q) × (now (s .1 .0) ≡ now (t .1 .0))
-unfolding bytesTold bytesOutput judgedBytes
+    → now (a .1 .1 .0) ≡ now (b .1 .1 .0) → now (a .1 .1 .1 .0) ≡ now (b .1 .1 .1 .0)
+    → frameFor x (descriptionOf (now (b .1 .1 .0))) ≡ frameFor y (descriptionOf (now (b .1 .1 .0))) → (r ≡ q) × (now (s .1 .0) ≡ now (t .1 .0))
 host-write-same x y κs κs' a b r q s t kept kept' n n' out items grid same =
     let one = host-write-named κs a r s kept x n in
     let other = host-write-named κs' b q t kept' y n' in
     let given = now (b .1 .1 .0) in
     let bytes = now (b .1 .1 .1 .0) in
-    let o = now (b .1 .0) in
-    let judged = ap (λ (f : Frame). afterItem (badNumber given) (judgedUnder f (inBytes bytes) (length o))) same in (
-      one .0 ∙ ap packed ((λ k. bytesTold x (items k) (grid k) (out k)) ∙ ap (told act) judged) ∙ sym (other .0),
-      one .1 ∙ (λ k. bytesOutput x (items k) (grid k) (out k)) ∙ ap (λ (z : Outcome). outputAfter z (cellOf (descriptionOf given) (heightsInBytes bytes)) o) judged ∙ sym (other .1),
+    let o = now (b .1 .0) in (
+      one .0 ∙ ap packed ((λ k. bytesTold x (items k) (grid k) (out k)) ∙ bytes-told-same x y given bytes o same) ∙ sym (other .0),
+      one .1 ∙ (λ k. bytesOutput x (items k) (grid k) (out k)) ∙ bytes-left-same x y given bytes o same ∙ sym (other .1),
     )

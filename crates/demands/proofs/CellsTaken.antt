@@ -13,7 +13,7 @@ use Rattle.answers.specs.Told as telling
 use Rattle.answers.proofs.Injective.{number-ranged}
 use Rattle.years.specs.declared.Year.{Year}
 use Rattle.years.specs.Years.{Names, under}
-use Rattle.years.proofs.YearLaws.{named-low, by-year, under-named, under-none}
+use Rattle.years.proofs.YearLaws.{named-low, by-year, under-named, under-none, names-one}
 use Rattle.host_answers.specs.Packed.{packed}
 use Rattle.host_answers.specs.Apart.{numberIn, placeIn, toldIn, Fits}
 use Rattle.host_answers.specs.Apart as fits
@@ -42,6 +42,9 @@ pub record Under (n : ℕ) (l : List ℕ) : Type 0 where
 pub record Exactly (n : ℕ) (l : List ℕ) (number : ℕ) : Type 0 where
   pub only : number ≡ 0 → Under n l
   pub all : (year : Year) → Names n year → Cell year l → number ≡ 0
+
+under-this : (n : ℕ) (l : List ℕ) → Under n l → (year : Year) → Names n year → Cell year l
+under-this n l it year names = subst (λ (y : Year). Cell y l) (names-one n (it .year) year (it .names) names) (it .cell)
 
 by-row : (year : Year) (l : List ℕ) (t : Told) → IntakeRow year l t → numberTold t ≡ 0 → Cell year l
 by-row year l _ (bad-headers r e) z = absurd (omega (arith, z, number-ranged r .0))
@@ -96,6 +99,9 @@ module _ (κs : L.Lfts 1) (a : K.Dens κs intake-kinds.ps) (r : _) (s : _) (kept
   pub intake-exactly : Exactly (a .0) (now (a .1 .0)) (numberTold (told telling.intake r))
   intake-exactly = subst (λ (t : Told). Exactly (a .0) (now (a .1 .0)) (numberTold t)) (sym kept) (taken-exactly (a .0) (now (a .1 .0)))
 
+  pub accepted-cell : (year : Year) → Names (a .0) year → numberTold (told telling.intake r) ≡ 0 → Cell year (now (a .1 .0))
+  accepted-cell year names zero = under-this (a .0) (now (a .1 .0)) (intake-exactly .only zero) year names
+
   pub byte-refused : (year : Year) → Names (a .0) year → (l : List ℕ) (k j v : ℕ) → OneByte year l k j v → now (a .1 .0) ≡ set l j v
       → RefusedIn l k (numberTold (told telling.intake r)) (placeTold (told telling.intake r))
   byte-refused year names l k j v b same =
@@ -120,6 +126,9 @@ module _ (κs : L.Lfts 1) (a : K.Dens κs host-intake-kinds.ps) (r : _) (s : _) 
 
   pub host-intake-exactly : Exactly (a .0) (now (a .1 .0)) (numberIn r)
   host-intake-exactly = subst (Exactly (a .0) (now (a .1 .0))) (sym number-is) (taken-exactly (a .0) (now (a .1 .0)))
+
+  pub host-accepted-cell : (year : Year) → Names (a .0) year → numberIn r ≡ 0 → Cell year (now (a .1 .0))
+  host-accepted-cell year names zero = under-this (a .0) (now (a .1 .0)) (host-intake-exactly .only zero) year names
 
   -- of a cell, what the header takes out of the answer: its level, columns and posts
   pub host-cell-told : (year : Year) → Names (a .0) year → Cell year (now (a .1 .0))

@@ -25,6 +25,8 @@ use Rattle.edit.proofs.edit.Reads as edit-call
 use Rattle.edit.proofs.edit.Kinds as edit-kinds
 use Rattle.cell_writer.proofs.write.Reads as write-call
 use Rattle.cell_writer.proofs.write.Kinds as write-kinds
+use Rattle.host_writers.proofs.cell.write.Reads as bytes-call
+use Rattle.host_writers.proofs.cell.write.Kinds as bytes-kinds
 use Rattle.dted.proofs.cells.dted_intake.Reads as host-intake-call
 use Rattle.dted.proofs.cells.dted_intake.Kinds as host-intake-kinds
 use Rattle.dted.proofs.cells.dted_post.Reads as host-post-call
@@ -67,6 +69,15 @@ write-named κs a r s kept year names =
     let d = a .1 .1 .0 in
     let zs = now (a .1 .1 .1 .0) in
     (kept .0 ∙ under-named (a .0) (λ (y : Year). cellTold y d zs out) year names, kept .1 ∙ left-named (a .0) out (λ (y : Year). cellOutput y d zs out) year names)
+
+pub bytes-named : (κs : L.Lfts 3) (a : K.Dens κs bytes-kinds.ps) (r : _) (s : _) → bytes-call.Post κs a r s → (year : Year) → Names (a .0) year
+    → (told act r ≡ bytesTold year (now (a .1 .1 .0)) (now (a .1 .1 .1 .0)) (now (a .1 .0)))
+    × (now (s .1 .0) ≡ bytesOutput year (now (a .1 .1 .0)) (now (a .1 .1 .1 .0)) (now (a .1 .0)))
+bytes-named κs a r s kept year names =
+    let out = now (a .1 .0) in
+    let items = now (a .1 .1 .0) in
+    let grid = now (a .1 .1 .1 .0) in
+    (kept .0 ∙ under-named (a .0) (λ (y : Year). bytesTold y items grid out) year names, kept .1 ∙ left-named (a .0) out (λ (y : Year). bytesOutput y items grid out) year names)
 
 -- the exported calls: what is packed
 packed-named : (n : ℕ) (tells : Year → Told) (r : ℕ) → r ≡ packed (under n tells) → (year : Year) → Names n year → r ≡ packed (tells year)

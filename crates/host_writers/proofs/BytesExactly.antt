@@ -11,6 +11,7 @@ use Rattle.years.specs.declared.Year.{Year}
 use Rattle.description.proofs.RangedItems.{item-exactly}
 use Rattle.sources.specs.Heights.{numbers, inBytes, heightsInBytes, Counts}
 use Rattle.layout.specs.Levels.{postsOf}
+use Rattle.headers.specs.Judged.{frameOf}
 use Rattle.description.specs.Facts.{factsFor}
 use Rattle.column_writer.specs.Column.{zoneOneColumns, judgedColumnWrite}
 use Rattle.column_writer.proofs.PostsExactly.{differs, as-numbers}
@@ -31,7 +32,7 @@ module _ (year : Year) (items : List ℤ) (grid : List ℕ) (room : ℕ) where
 
   -- 9 with the lowest item, then 10, 11, 12, or done
   abbrev pub CellRow : Outcome → Type 0
-  CellRow = ItemRow (numberTests items) (UnderRow (frameFor year (descriptionOf items)) (inBytes grid) room)
+  CellRow = ItemRow (numberTests items) (UnderRow (frameOf year (factsFor (descriptionOf items))) (inBytes grid) room)
 
   -- every row's answer is given
   pub given : (x : Outcome) → CellRow x → judgedBytes year items grid room ≡ x
@@ -66,7 +67,7 @@ module _ (year : Year) (items : List ℤ) (grid : List ℕ) (room : ℕ) where
 -- what an accepted call was given
 pub record Ready (year : Year) (items : List ℤ) (grid : List ℕ) (room : ℕ) : Type 0 where
   pub numbers : badNumber items ≡ 0
-  pub fine : UnderFine (frameFor year (descriptionOf items)) (inBytes grid) room
+  pub fine : UnderFine (frameOf year (factsFor (descriptionOf items))) (inBytes grid) room
 
 pub ready : (year : Year) (items : List ℤ) (grid : List ℕ) (room : ℕ) → judgedBytes year items grid room ≡ Done → Ready year items grid room
 unfolding judgedBytes

@@ -49,7 +49,7 @@ pub said-first : (n : ℕ) (year : Year) → Names n year → (piece : List ℕ)
 said-first n year named piece = named-is n year named (refused 17 n) (λ (y : Year). saidOfHeaders (judged piece))
 
 pub due-first : (n : ℕ) (year : Year) → Names n year → (piece : List ℕ) → advanced (Headers n) piece ≡ dueAfter year (judged piece)
-due-first n year named piece = named-is n year named (Over (verdict.Refused (because.Year n))) (λ (y : Year). dueAfter y (judged piece))
+due-first n year named piece = named-is n year named (Headers n) (λ (y : Year). dueAfter y (judged piece))
 
 -- so its promise, by what was done under that year, or that there was none
 pub first-kept : (n : ℕ) (year : Year) → Names n year → (piece : List ℕ) (answer : Verdict) (later : Phase)

@@ -7,7 +7,6 @@ use mathlib.Core.List.{List}
 use lib.Dec.{lit<}
 use lib.ListN.{length}
 use Rattle.answers.specs.Told.{Told, told, intake, refused, more}
-use Rattle.answers.specs.declared.Refusal.the-variants as because
 use Rattle.answers.specs.declared.Verdict.{Verdict}
 use Rattle.answers.specs.declared.Verdict.the-variants as verdict
 use Rattle.years.specs.Years.{namedOf, byNamed}
@@ -65,7 +64,7 @@ abbrev saidUnder : ℕ → Named → JudgedHeaders → Told
 saidUnder n m x = byNamed m (refused 17 n) (λ (year : Year). saidOfHeaders x)
 
 abbrev dueUnder : ℕ → Named → JudgedHeaders → Phase
-dueUnder n m x = byNamed m (Over (verdict.Refused (because.Year n))) (λ (year : Year). dueAfter year x)
+dueUnder n m x = byNamed m (Headers n) (λ (year : Year). dueAfter year x)
 
 headers-fall : (n : ℕ) (m : Named) (x : JudgedHeaders) → saidUnder n m x ≡ more → turnsLeft (dueUnder n m x) < turnsLeft (Headers n)
 headers-fall n (Rule year) (Good f) e = laid-turns n (f .grid .level) _ 0 (laid (f .grid .level) _) refl

@@ -7,7 +7,6 @@ use lib.ListN.{length, take, drop}
 use lib.Dec.{leb, ltb}
 use Rattle.octets.specs.Choice.{pick}
 use Rattle.answers.specs.Told as said
-use Rattle.answers.specs.declared.Refusal.the-variants as because
 use Rattle.answers.specs.declared.Verdict.{Verdict}
 use Rattle.answers.specs.declared.Verdict.the-variants as verdict
 use Rattle.years.specs.declared.Year.{Year}
@@ -70,7 +69,7 @@ dueAfter year (headers.Good f) = Columns (record { level = f .grid .level; edge 
 dueAfter year (headers.Refused r) = Over (verdict.Refused r)
 
 abbrev pub advanced : Phase → List ℕ → Phase
-advanced (Headers n) piece = byNamed (namedOf n) (Over (verdict.Refused (because.Year n))) (λ (year : Year). dueAfter year (judged piece))
+advanced (Headers n) piece = byNamed (namedOf n) (Headers n) (λ (year : Year). dueAfter year (judged piece))
 advanced (Columns d) piece = Columns (record { level = d .level; edge = d .edge; voids = d .voids; next = d .next + 1 })
 advanced (Over v) piece = Over v
 

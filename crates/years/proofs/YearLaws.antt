@@ -33,6 +33,10 @@ named-low n year e =
     (λ not-one.
     by-equal n 2 (λ two. omega arith) (λ not-two. let clash = sym (no-other-named n not-one not-two) ∙ e in let z : _≡_ {A = ℕ} 0 1 = cc in absurd (omega arith)))
 
+-- and it names no other
+pub names-one : (n : ℕ) (a b : Year) → Names n a → Names n b → a ≡ b
+names-one n a b e f = let same : Rule a ≡ Rule b = sym e ∙ f in cc
+
 -- by cases on what a number names
 by-name : {C : Type 0} (n : ℕ) (m : Named) → namedOf n ≡ m → (NamesNone n → C) → ((year : Year) → Names n year → C) → C
 by-name n Unknown e f g = f e
@@ -80,15 +84,3 @@ module _ (n : ℕ) (tells : Year → Told) (Row : Year → Told → Type 0) wher
       by-year n
       (λ e. subst (Rows n Row) (sym (under-none n tells e)) (none e))
       (λ year e. subst (Rows n Row) (sym (under-named n tells year e)) (named year e (tells year) (is year)))
-
--- what is told and is not 17 is told under a year that the number names: so whatever holds of every year holds of every such call
-pub record Ruled (n : ℕ) (tells : Year → Told) (t : Told) : Type 0 where
-  pub year : Year
-  pub names : Names n year
-  pub tells-it : tells year ≡ t
-
-pub ruled : (n : ℕ) (tells : Year → Told) (t : Told) → under n tells ≡ t → (refused 17 n ≡ t → ⊥) → Ruled n tells t
-ruled n tells t e other =
-    by-year n
-    (λ none. absurd (other (sym (under-none n tells none) ∙ e)))
-    (λ year names. record { year = year; names = names; tells-it = sym (under-named n tells year names) ∙ e })

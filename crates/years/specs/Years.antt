@@ -24,10 +24,10 @@ NamesNone n = namedOf n ≡ Unknown
 
 -- what there is under a year that was named, or instead
 abbrev pub byNamed : {A : Type 0} → Named → A → (Year → A) → A
-byNamed (Rule year) instead under = under year
-byNamed Unknown instead under = instead
+byNamed (Rule year) instead then = then year
+byNamed Unknown instead then = instead
 
--- N17: what a call tells. Its first refusal is chosen here alone
+-- N17: what a call tells. 17 is put in front here alone
 abbrev pub under : ℕ → (Year → Told) → Told
 under n tells = byNamed (namedOf n) (numbered (because.Year n)) tells
 

@@ -1,0 +1,2 @@
+-- Which year the program goes by.
+pub mod YearNamed
