@@ -371,6 +371,38 @@ static void compare_edits(void) {
     same_bytes(first, second, length, "edited bytes");
 }
 
+/* ---- fronts of cells of every level ---- */
+
+/* Good headers and one column of zeros with some voids, which posts and edits judge alone; the cell is complete or partial. */
+static size_t make_front(uint8_t *front, const uint8_t *headers, unsigned level) {
+    size_t posts = dted_posts(dted_grid(level, 0));
+    uint8_t *column = front + DTED_HEADER_BYTES;
+    column_bytes = 12 + 2 * posts;
+    memcpy(front, headers, DTED_HEADER_BYTES);
+    memcpy(front + 369, below(2) ? "00" : "42", 2);
+    memset(column, 0, column_bytes);
+    column[0] = 170;
+    for (uint64_t voids = below(3); voids > 0; voids--)
+        memset(column + 8 + 2 * below(posts), 0xFF, 2);
+    put_sum(column);
+    return DTED_HEADER_BYTES + column_bytes;
+}
+
+static void compare_fronts(void) {
+    static uint8_t front[DTED_HEADER_BYTES + DTED_LONGEST_COLUMN], other[sizeof front];
+    for (unsigned i = 0; i < KEPT; i++) {
+        size_t bytes = make_front(front, kept[i], i % LEVELS);
+        uint64_t post = below((column_bytes - 12) / 2);
+        int64_t height = below(2) ? DTED_VOID : some_height();
+        memcpy(other, front, bytes);
+        some_year();
+        same_intake(front, bytes);
+        same_post(front, bytes, 0, post);
+        same(one->edit(year, front, bytes, 0, post, height), two->edit(year, other, bytes, 0, post, height), "edit");
+        same_bytes(front, other, bytes, "edited bytes");
+    }
+}
+
 /* ---- the large cell ---- */
 
 /* Its first column all void, which has the largest sum, and the cell partial: at level 2 that is good in both years. */
@@ -426,6 +458,8 @@ size_t compare(const struct calls *a, const struct calls *b, const uint8_t *larg
     compare_items();
     compare_refused_writes();
     compare_fields();
+    for (int i = 0; i < 10; i++)
+        compare_fronts();
     for (int latitude = -90; latitude <= 89; latitude++) {
         make_small(latitude);
         if (latitude % 20 == 0)
