@@ -151,8 +151,12 @@ static bool is_accepted(const struct cell *cell) {
 
 static void expect_whole(const struct cell *cell, dted_answer intake, const int64_t *items) {
     expect("intake", intake.bits, due_of_intake(cell));
-    if (dted_number(intake) == 0)
+    if (dted_number(intake) == 0) {
+        expect("intake: level", dted_level(intake), (uint64_t)cell->items[DTED_LEVEL]);
+        expect("intake: columns", dted_columns(intake), cell->columns);
+        expect("intake: posts", dted_posts(intake), cell->posts);
         expect("intake: length", dted_cell_length(intake), cell->length);
+    }
     for (int i = 0; i < CELL_ITEMS; i++)
         expect("an item as it was made", (uint64_t)items[i], (uint64_t)cell->items[i]);
 }
@@ -313,6 +317,10 @@ static void zeros_case(const void *context) {
     expect("edits beside such posts", edits_beside_zeros > cases / 100, 1);
 }
 
+static void years_case(const void *context) {
+    expect_years_seen(*(const uint64_t *)context);
+}
+
 static uint64_t due_of_edit(const struct cell *cell, uint64_t column, uint64_t post, int64_t height) {
     bool allowed = (height >= -12000 && height <= 9000) || (voids_allowed(cell) && height == DTED_VOID);
     if (column >= cell->columns || post >= cell->posts)
@@ -363,12 +371,13 @@ static size_t near_room(struct random *random, size_t due) {
     }
 }
 
-/* What was written is read back: the description, posts, and each column as the column writer makes it. */
+/* What was written is read back in the same year: the description, posts, and each column as the column writer makes it. */
 static void read_back(struct random *random, struct cell *cell) {
     int64_t items[CELL_ITEMS];
     both_lend(both_out(), cell->length);
     dted_answer intake = both_intake();
     both_describe(items);
+    expect("a written cell is accepted", dted_number(intake), 0);
     expect_whole(cell, intake, items);
     look_up(random, cell);
     for (int i = 0; i < 4; i++) {
@@ -425,10 +434,6 @@ static void write_columns(struct random *random) {
 }
 
 /* ---- cases from the seed ---- */
-
-static void years_case(const void *context) {
-    expect_years_seen(*(const uint64_t *)context);
-}
 
 enum kind { DAMAGED, WHOLE, EDITS, WRITE, COLUMNS };
 static const char *const kind_names[] = {"reading", "reading", "edits", "writing", "single columns"};

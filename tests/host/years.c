@@ -161,7 +161,7 @@ void expect_years_seen(uint64_t cases) {
     for (int64_t level = 0; level <= 2; level++)
         for (enum call call = INTAKE; call < CALLS; call++) {
             name_case("voids met at level %d by %s", (int)level, names[call]);
-            uint64_t least = call == WRITE && level > 0 ? 0 : cases / 500;
+            uint64_t least = cases / (call == WRITE && level == 1 ? 12000 : 500); /* few cells of level 1 are written */
             if (level < 2)
                 expect("refused in year 2 alone", refused_in_2[call][level] >= least, 1);
             else if (call == POST || call == POSITION || call == EDIT)
