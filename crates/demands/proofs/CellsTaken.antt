@@ -13,7 +13,7 @@ use Rattle.answers.specs.Told as telling
 use Rattle.answers.proofs.Injective.{number-ranged}
 use Rattle.years.specs.declared.Year.{Year}
 use Rattle.years.specs.Years.{Names, under}
-use Rattle.years.proofs.YearLaws.{named-low, by-year, under-named, under-none, names-one}
+use Rattle.years.proofs.YearLaws.{by-year, under-named, under-none, names-one}
 use Rattle.host_answers.specs.Packed.{packed}
 use Rattle.host_answers.specs.Apart.{numberIn, placeIn, toldIn, Fits}
 use Rattle.host_answers.specs.Apart as fits
@@ -29,7 +29,7 @@ use Rattle.intake.proofs.intake.Kinds as intake-kinds
 use Rattle.dted.proofs.cells.dted_intake.Reads as host-intake
 use Rattle.dted.proofs.cells.dted_intake.Kinds as host-intake-kinds
 use Rattle.demands.proofs.PlacesFit.{intake-fits}
-use Rattle.demands.proofs.HostTold.{intake-told}
+use Rattle.demands.proofs.HostTold.{intake-told-in}
 use Rattle.demands.proofs.NamedYears.{intake-named, host-intake-named}
 
 -- the bytes are a cell under the year that a number names
@@ -134,7 +134,7 @@ module _ (κs : L.Lfts 1) (a : K.Dens κs host-intake-kinds.ps) (r : _) (s : _) 
   pub host-cell-told : (year : Year) → Names (a .0) year → Cell year (now (a .1 .0))
       → toldIn r ≡ accepted (factsIn (now (a .1 .0)) .grid .level) (factsIn (now (a .1 .0)) .grid .columns) (factsIn (now (a .1 .0)) .grid .posts)
   host-cell-told year names cell =
-      intake-told κs a r s kept (omega (arith, named-low (a .0) year names)) ∙ taken-in (a .0) (now (a .1 .0)) year names ∙ cell-accepted year (now (a .1 .0)) cell
+      intake-told-in κs a r s kept year names ∙ cell-accepted year (now (a .1 .0)) cell
 
   pub host-byte-refused : (year : Year) → Names (a .0) year → (l : List ℕ) (k j v : ℕ) → OneByte year l k j v → now (a .1 .0) ≡ set l j v
       → RefusedIn l k (numberIn r) (placeIn r)

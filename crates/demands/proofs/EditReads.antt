@@ -1,7 +1,6 @@
 -- E2 over the calls' own promises, inner and exported: after an accepted edit of a cell a lookup of its post tells what was given, and a lookup of
 -- any other post what a lookup told before.
 use Prim.Native.Nat.{ℕ}
-use native.Mathlib.Omega.{arith}
 use mathlib.Core.Path.{_≡_, sym, ap, _∙_}
 use mathlib.Core.List.{List}
 use lib.IntN.{ℤ}
@@ -17,7 +16,6 @@ use Rattle.host_answers.specs.Apart.{toldIn}
 use Rattle.octets.specs.Numbers.{Bytes}
 use Rattle.years.specs.declared.Year.{Year}
 use Rattle.years.specs.Years.{Names}
-use Rattle.years.proofs.YearLaws.{named-low, under-named}
 use Rattle.cells.specs.Cell.{Cell}
 use Rattle.lookup.specs.Lookup.{heightSaid, lookedUp}
 use Rattle.edit.specs.Edit.{judgedEdit, editTold, edited}
@@ -33,7 +31,7 @@ use Rattle.dted.proofs.cells.dted_post.Reads as host-post
 use Rattle.dted.proofs.cells.dted_post.Kinds as host-post-kinds
 use Rattle.demands.proofs.NamedYears.{edit-named, post-named, host-edit-named, host-post-named}
 use Rattle.demands.proofs.HostAnswers.{was-done}
-use Rattle.demands.proofs.HostTold.{post-told}
+use Rattle.demands.proofs.HostTold.{post-told-in}
 
 -- after an edit that was judged done, in the bytes m that it left: what is told of its post, and of any other
 module _ {year : Year} (l : List ℕ) (cell : Cell year l) (bytes : Bytes l) (c p : ℕ) (z : ℤ) (e : judgedEdit year l c p z ≡ Done)
@@ -61,7 +59,9 @@ module _ (κs : L.Lfts 1) (a : K.Dens κs edit-kinds.ps) (r : _) (s : _) (kept :
   pub edited-answered : (κs' : L.Lfts 1) (b : K.Dens κs' look-up-kinds.ps) (q : _) (t : _) → look-up.Post κs' b q t → Names (b .0) year
       → now (b .1 .0) ≡ now (s .1 .0) → b .1 .1 .0 ≡ a .1 .1 .0 → b .1 .1 .1 .0 ≡ a .1 .1 .1 .0 → told telling.post q ≡ heightSaid (a .1 .1 .1 .1 .0)
   edited-answered κs' b q t kept' names' same c p =
-      post-named κs' b q t kept' year names' ∙ own-told (now (a .1 .0)) cell bytes (a .1 .1 .0) (a .1 .1 .1 .0) (a .1 .1 .1 .1 .0) judged-done (now (b .1 .0)) (same ∙ edit-named κs a r s kept year names .1) (b .1 .1 .0) (b .1 .1 .1 .0) c p
+      post-named κs' b q t kept' year names'
+      ∙ own-told (now (a .1 .0)) cell bytes (a .1 .1 .0) (a .1 .1 .1 .0) (a .1 .1 .1 .1 .0) judged-done
+      (now (b .1 .0)) (same ∙ edit-named κs a r s kept year names .1) (b .1 .1 .0) (b .1 .1 .1 .0) c p
 
   -- lookups of another post, before and afterwards
   pub others-answered : (κs' κs'' : L.Lfts 1) (b : K.Dens κs' look-up-kinds.ps) (b' : K.Dens κs'' look-up-kinds.ps) (q q' : _) (t t' : _)
@@ -70,7 +70,8 @@ module _ (κs : L.Lfts 1) (a : K.Dens κs edit-kinds.ps) (r : _) (s : _) (kept :
   others-answered κs' κs'' b b' q q' t t' before after names' names'' at-first at-last c p other =
       told-injective telling.post q' q
       (post-named κs'' b' q' t' after year names'' ∙ (λ k. lookedUp year (now (b' .1 .0)) (c k) (p k))
-      ∙ other-told (now (a .1 .0)) cell bytes (a .1 .1 .0) (a .1 .1 .1 .0) (a .1 .1 .1 .1 .0) judged-done (now (b' .1 .0)) (at-last ∙ edit-named κs a r s kept year names .1) (b .1 .1 .0) (b .1 .1 .1 .0) other
+      ∙ other-told (now (a .1 .0)) cell bytes (a .1 .1 .0) (a .1 .1 .1 .0) (a .1 .1 .1 .1 .0) judged-done
+      (now (b' .1 .0)) (at-last ∙ edit-named κs a r s kept year names .1) (b .1 .1 .0) (b .1 .1 .1 .0) other
       ∙ sym (post-named κs' b q t before year names' ∙ ap (λ (m : List ℕ). lookedUp year m (b .1 .1 .0) (b .1 .1 .1 .0)) at-first))
 
 -- the same for a C host: the edit answered 0
@@ -83,16 +84,17 @@ module _ (κs : L.Lfts 1) (a : K.Dens κs host-edit-kinds.ps) (r : _) (s : _) (k
   pub host-edited-answered : (κs' : L.Lfts 1) (b : K.Dens κs' host-post-kinds.ps) (q : _) (t : _) → host-post.Post κs' b q t → Names (b .0) year
       → now (b .1 .0) ≡ now (s .1 .0) → b .1 .1 .0 ≡ a .1 .1 .0 → b .1 .1 .1 .0 ≡ a .1 .1 .1 .0 → toldIn q ≡ heightSaid (a .1 .1 .1 .1 .0)
   host-edited-answered κs' b q t kept' names' same c p =
-      post-told κs' b q t kept' (omega (arith, named-low (b .0) year names'))
-      ∙ under-named (b .0) (λ (y : Year). lookedUp y (now (b .1 .0)) (b .1 .1 .0) (b .1 .1 .1 .0)) year names'
-      ∙ own-told (now (a .1 .0)) cell bytes (a .1 .1 .0) (a .1 .1 .1 .0) (a .1 .1 .1 .1 .0) host-judged-done (now (b .1 .0)) (same ∙ host-edit-named κs a r s kept year names .1) (b .1 .1 .0) (b .1 .1 .1 .0) c p
+      post-told-in κs' b q t kept' year names'
+      ∙ own-told (now (a .1 .0)) cell bytes (a .1 .1 .0) (a .1 .1 .1 .0) (a .1 .1 .1 .1 .0) host-judged-done
+      (now (b .1 .0)) (same ∙ host-edit-named κs a r s kept year names .1) (b .1 .1 .0) (b .1 .1 .1 .0) c p
 
   pub host-others-answered : (κs' κs'' : L.Lfts 1) (b : K.Dens κs' host-post-kinds.ps) (b' : K.Dens κs'' host-post-kinds.ps) (q q' : _) (t t' : _)
       → host-post.Post κs' b q t → host-post.Post κs'' b' q' t' → Names (b .0) year → Names (b' .0) year → now (b .1 .0) ≡ now (a .1 .0) → now (b' .1 .0) ≡ now (s .1 .0)
       → b' .1 .1 .0 ≡ b .1 .1 .0 → b' .1 .1 .1 .0 ≡ b .1 .1 .1 .0 → (b .1 .1 .0 ≡ a .1 .1 .0 → b .1 .1 .1 .0 ≡ a .1 .1 .1 .0 → ⊥) → q' ≡ q
   host-others-answered κs' κs'' b b' q q' t t' before after names' names'' at-first at-last c p other =
       let same =
-      other-told (now (a .1 .0)) cell bytes (a .1 .1 .0) (a .1 .1 .1 .0) (a .1 .1 .1 .1 .0) host-judged-done (now (b' .1 .0)) (at-last ∙ host-edit-named κs a r s kept year names .1) (b .1 .1 .0) (b .1 .1 .1 .0) other
+      other-told (now (a .1 .0)) cell bytes (a .1 .1 .0) (a .1 .1 .1 .0) (a .1 .1 .1 .1 .0) host-judged-done
+      (now (b' .1 .0)) (at-last ∙ host-edit-named κs a r s kept year names .1) (b .1 .1 .0) (b .1 .1 .1 .0) other
       in
       host-post-named κs'' b' q' t' after year names'' ∙ (λ k. packed (lookedUp year (now (b' .1 .0)) (c k) (p k))) ∙ ap packed same
       ∙ sym (host-post-named κs' b q t before year names' ∙ ap (λ (m : List ℕ). packed (lookedUp year m (b .1 .1 .0) (b .1 .1 .1 .0))) at-first)

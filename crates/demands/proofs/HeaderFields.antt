@@ -2,7 +2,7 @@
 -- headers tells the same of it, the place in that field and the number 21, 22 or 23 exactly as the scope says; and of nothing else.
 use Prim.Native.Nat.{ℕ, _+_, _<_, _≤_}
 use native.Mathlib.Omega.{arith}
-use mathlib.Core.Path.{_≡_, refl, sym, ap, subst, _∙_}
+use mathlib.Core.Path.{_≡_, refl, sym, ap, subst}
 use mathlib.Core.Bool.{Bool}
 use mathlib.Core.List.{List}
 use lib.Dec.{lit<}
@@ -19,7 +19,6 @@ use Rattle.answers.specs.declared.Reading.{Reading}
 use Rattle.answers.specs.declared.Reading.the-variants as reading
 use Rattle.years.specs.declared.Year.{Year}
 use Rattle.years.specs.Years.{Names}
-use Rattle.years.proofs.YearLaws.{named-low, under-named}
 use Rattle.host_answers.specs.Apart.{toldIn}
 use Rattle.posts.specs.Words.{postOf}
 use Rattle.posts.specs.declared.Post.{Post}
@@ -72,7 +71,7 @@ use Rattle.dted.proofs.cells.dted_edit.Kinds as edit-kinds
 use Rattle.dted.proofs.descriptions.dted_describe.Reads as describe-call
 use Rattle.dted.proofs.descriptions.dted_describe.Kinds as describe-kinds
 use Rattle.demands.proofs.NamedYears.{intake-named, post-named, position-named, edit-named}
-use Rattle.demands.proofs.HostTold.{intake-told, describe-told, post-told, position-told, edit-told}
+use Rattle.demands.proofs.HostTold.{describe-told, intake-told-in, post-told-in, position-told-in, edit-told-in}
 
 -- what is told of field i, the first of these bytes that breaks its rule
 pub record FieldTold (l : List ℕ) (i : ℕ) (t : Told) : Type 0 where
@@ -212,29 +211,28 @@ describe-headers κs a r s kept = said-of _ _ _ (ap saidOfDescribed kept) (descr
 pub post-headers : (κs : L.Lfts 1) (a : K.Dens κs looking-kinds.ps) (r : _) (s : _) → looking.Post κs a r s → (year : Year) → Names (a .0) year → HeadersSaid (now (a .1 .0)) (told post r)
 post-headers κs a r s kept year names = said-of _ _ _ (post-named κs a r s kept year names) (post-says year (now (a .1 .0)) (a .1 .1 .0) (a .1 .1 .1 .0))
 
-pub position-headers : (κs : L.Lfts 1) (a : K.Dens κs locating-kinds.ps) (r : _) (s : _) → locating.Post κs a r s → (year : Year) → Names (a .0) year → HeadersSaid (now (a .1 .0)) (told position r)
+pub position-headers : (κs : L.Lfts 1) (a : K.Dens κs locating-kinds.ps) (r : _) (s : _) → locating.Post κs a r s → (year : Year) → Names (a .0) year
+    → HeadersSaid (now (a .1 .0)) (told position r)
 position-headers κs a r s kept year names = said-of _ _ _ (position-named κs a r s kept year names) (position-says year (now (a .1 .0)) (a .1 .1 .0) (a .1 .1 .1 .0))
 
 pub edit-headers : (κs : L.Lfts 1) (a : K.Dens κs editing-kinds.ps) (r : _) (s : _) → editing.Post κs a r s → (year : Year) → Names (a .0) year → HeadersSaid (now (a .1 .0)) (told act r)
 edit-headers κs a r s kept year names = said-of _ _ _ (edit-named κs a r s kept year names .0) (edit-says year (now (a .1 .0)) (a .1 .1 .0) (a .1 .1 .1 .0) (a .1 .1 .1 .1 .0))
 
 -- and the exported ones: what the header takes out of an answer
-small : (n : ℕ) (year : Year) → Names n year → n < 4294967296
-small n year names = omega (arith, named-low n year names)
-
-pub host-intake-headers : (κs : L.Lfts 1) (a : K.Dens κs intake-kinds.ps) (r : _) (s : _) → intake-call.Post κs a r s → (year : Year) → Names (a .0) year → HeadersSaid (now (a .1 .0)) (toldIn r)
-host-intake-headers κs a r s kept year names = said-of _ _ _ (intake-told κs a r s kept (small (a .0) year names) ∙ under-named (a .0) (λ (y : Year). taken y (now (a .1 .0))) year names) (intake-says year (now (a .1 .0)))
+pub host-intake-headers : (κs : L.Lfts 1) (a : K.Dens κs intake-kinds.ps) (r : _) (s : _) → intake-call.Post κs a r s → (year : Year) → Names (a .0) year
+    → HeadersSaid (now (a .1 .0)) (toldIn r)
+host-intake-headers κs a r s kept year names = said-of _ _ _ (intake-told-in κs a r s kept year names) (intake-says year (now (a .1 .0)))
 
 pub host-describe-headers : (κs : L.Lfts 2) (a : K.Dens κs describe-kinds.ps) (r : _) (s : _) → describe-call.Post κs a r s
     → HeadersSaid (now (a .0)) (toldIn r)
 host-describe-headers κs a r s kept = said-of _ _ _ (describe-told κs a r s kept) (describe-says (now (a .0)))
 
 pub host-post-headers : (κs : L.Lfts 1) (a : K.Dens κs post-kinds.ps) (r : _) (s : _) → post-call.Post κs a r s → (year : Year) → Names (a .0) year → HeadersSaid (now (a .1 .0)) (toldIn r)
-host-post-headers κs a r s kept year names = said-of _ _ _ (post-told κs a r s kept (small (a .0) year names) ∙ under-named (a .0) (λ (y : Year). lookedUp y (now (a .1 .0)) (a .1 .1 .0) (a .1 .1 .1 .0)) year names) (post-says year (now (a .1 .0)) (a .1 .1 .0) (a .1 .1 .1 .0))
+host-post-headers κs a r s kept year names = said-of _ _ _ (post-told-in κs a r s kept year names) (post-says year (now (a .1 .0)) (a .1 .1 .0) (a .1 .1 .1 .0))
 
 pub host-position-headers : (κs : L.Lfts 1) (a : K.Dens κs position-kinds.ps) (r : _) (s : _) → position-call.Post κs a r s → (year : Year) → Names (a .0) year
     → HeadersSaid (now (a .1 .0)) (toldIn r)
-host-position-headers κs a r s kept year names = said-of _ _ _ (position-told κs a r s kept (small (a .0) year names) ∙ under-named (a .0) (λ (y : Year). located y (now (a .1 .0)) (a .1 .1 .0) (a .1 .1 .1 .0)) year names) (position-says year (now (a .1 .0)) (a .1 .1 .0) (a .1 .1 .1 .0))
+host-position-headers κs a r s kept year names = said-of _ _ _ (position-told-in κs a r s kept year names) (position-says year (now (a .1 .0)) (a .1 .1 .0) (a .1 .1 .1 .0))
 
 pub host-edit-headers : (κs : L.Lfts 1) (a : K.Dens κs edit-kinds.ps) (r : _) (s : _) → edit-call.Post κs a r s → (year : Year) → Names (a .0) year → HeadersSaid (now (a .1 .0)) (toldIn r)
-host-edit-headers κs a r s kept year names = said-of _ _ _ (edit-told κs a r s kept (small (a .0) year names) ∙ under-named (a .0) (λ (y : Year). editTold y (now (a .1 .0)) (a .1 .1 .0) (a .1 .1 .1 .0) (a .1 .1 .1 .1 .0)) year names) (edit-says year (now (a .1 .0)) (a .1 .1 .0) (a .1 .1 .1 .0) (a .1 .1 .1 .1 .0))
+host-edit-headers κs a r s kept year names = said-of _ _ _ (edit-told-in κs a r s kept year names) (edit-says year (now (a .1 .0)) (a .1 .1 .0) (a .1 .1 .1 .0) (a .1 .1 .1 .1 .0))

@@ -54,7 +54,8 @@ edited-cells l l' es rs calls = chain-left l l' es rs (chained calls)
 
 -- so a refused call and then, on what it left, one that was done
 pub refused-then-done : (year : Year) (κs κs' : L.Lfts 1) (a : K.Dens κs edit-kinds.ps) (b : K.Dens κs' edit-kinds.ps) (r q : ℕ) (s t : _)
-    → edit.Post κs a r s → edit.Post κs' b q t → Names (a .0) year → Names (b .0) year → b .1 .0 .now ≡ s .1 .0 .now → Cell year (a .1 .0 .now) → Bytes (a .1 .0 .now) → isDone r ≡ false → isDone q ≡ true
+    → edit.Post κs a r s → edit.Post κs' b q t → Names (a .0) year → Names (b .0) year → b .1 .0 .now ≡ s .1 .0 .now → Cell year (a .1 .0 .now) → Bytes (a .1 .0 .now)
+    → isDone r ≡ false → isDone q ≡ true
     → t .1 .0 .now ≡ withReplaced (factsIn (a .1 .0 .now) .grid) (a .1 .0 .now) (callOf κs' b ∷ [])
 refused-then-done year κs κs' a b r q s t kept kept' names names' same cell bytes refused done =
     let second : Edits year (s .1 .0 .now) (callOf κs' b ∷ []) (q ∷ []) (t .1 .0 .now) =

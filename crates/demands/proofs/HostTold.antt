@@ -2,13 +2,15 @@
 -- among it, and two answers that tell something else are two numbers, of whatever calls: void is apart from every height, a height from
 -- a grid.
 use Prim.Native.Nat.{ℕ, _<_}
+use native.Mathlib.Omega.{arith}
 use mathlib.Core.Path.{_≡_, ap, _∙_}
 use contract.Lifetimes as L
 use denote.Ref.{now}
 use borrow.Fn.Kinds as K
 use Rattle.answers.specs.Told.{Told}
 use Rattle.years.specs.declared.Year.{Year}
-use Rattle.years.specs.Years.{under}
+use Rattle.years.specs.Years.{Names, under}
+use Rattle.years.proofs.YearLaws.{named-low, under-named}
 use Rattle.host_answers.specs.Packed.{packed}
 use Rattle.host_answers.specs.Apart.{toldIn, Fits}
 use Rattle.host_answers.proofs.TakenApart.{told-back}
@@ -44,7 +46,8 @@ use Rattle.demands.proofs.HostFits.{write-fits, write-column-fits, grid
 out-of : (t : Told) (r : ℕ) → Fits t → r ≡ packed t → toldIn r ≡ t
 out-of t r f p = ap toldIn p ∙ told-back t f
 
-pub intake-told : (κs : L.Lfts 1) (a : K.Dens κs intake-kinds.ps) (r : _) (s : _) → intake-call.Post κs a r s → a .0 < 4294967296 → toldIn r ≡ under (a .0) (λ (year : Year). taken year (now (a .1 .0)))
+pub intake-told : (κs : L.Lfts 1) (a : K.Dens κs intake-kinds.ps) (r : _) (s : _) → intake-call.Post κs a r s → a .0 < 4294967296
+    → toldIn r ≡ under (a .0) (λ (year : Year). taken year (now (a .1 .0)))
 intake-told κs a r s kept small = out-of _ r (under-fits (a .0) small _ (λ year. intake-fits year (now (a .1 .0)))) kept
 
 pub post-told : (κs : L.Lfts 1) (a : K.Dens κs post-kinds.ps) (r : _) (s : _) → post-call.Post κs a r s
@@ -73,3 +76,30 @@ write-told κs a r s kept small = out-of _ r (under-fits (a .0) small _ (λ year
 pub write-column-told : (κs : L.Lfts 2) (a : K.Dens κs write-column-kinds.ps) (r : _) (s : _) → write-column-call.Post κs a r s
     → toldIn r ≡ columnBytesTold (a .1 .0) (a .1 .1 .0) (now (a .1 .1 .1 .0)) (now (a .0))
 write-column-told κs a r s kept = out-of _ r (write-column-fits (a .1 .0) (a .1 .1 .0) (now (a .1 .1 .1 .0)) (now (a .0))) (kept .0)
+
+-- under a year that was named, whose number is small
+small : (n : ℕ) (year : Year) → Names n year → n < 4294967296
+small n year names = omega (arith, named-low n year names)
+
+pub intake-told-in : (κs : L.Lfts 1) (a : K.Dens κs intake-kinds.ps) (r : _) (s : _) → intake-call.Post κs a r s → (year : Year) → Names (a .0) year
+    → toldIn r ≡ taken year (now (a .1 .0))
+intake-told-in κs a r s kept year names =
+    intake-told κs a r s kept (small (a .0) year names) ∙ under-named (a .0) (λ (y : Year). taken y (now (a .1 .0))) year names
+
+pub post-told-in : (κs : L.Lfts 1) (a : K.Dens κs post-kinds.ps) (r : _) (s : _) → post-call.Post κs a r s → (year : Year) → Names (a .0) year
+    → toldIn r ≡ lookedUp year (now (a .1 .0)) (a .1 .1 .0) (a .1 .1 .1 .0)
+post-told-in κs a r s kept year names =
+    post-told κs a r s kept (small (a .0) year names)
+    ∙ under-named (a .0) (λ (y : Year). lookedUp y (now (a .1 .0)) (a .1 .1 .0) (a .1 .1 .1 .0)) year names
+
+pub position-told-in : (κs : L.Lfts 1) (a : K.Dens κs position-kinds.ps) (r : _) (s : _) → position-call.Post κs a r s → (year : Year) → Names (a .0) year
+    → toldIn r ≡ located year (now (a .1 .0)) (a .1 .1 .0) (a .1 .1 .1 .0)
+position-told-in κs a r s kept year names =
+    position-told κs a r s kept (small (a .0) year names)
+    ∙ under-named (a .0) (λ (y : Year). located y (now (a .1 .0)) (a .1 .1 .0) (a .1 .1 .1 .0)) year names
+
+pub edit-told-in : (κs : L.Lfts 1) (a : K.Dens κs edit-kinds.ps) (r : _) (s : _) → edit-call.Post κs a r s → (year : Year) → Names (a .0) year
+    → toldIn r ≡ editTold year (now (a .1 .0)) (a .1 .1 .0) (a .1 .1 .1 .0) (a .1 .1 .1 .1 .0)
+edit-told-in κs a r s kept year names =
+    edit-told κs a r s kept (small (a .0) year names)
+    ∙ under-named (a .0) (λ (y : Year). editTold y (now (a .1 .0)) (a .1 .1 .0) (a .1 .1 .1 .0) (a .1 .1 .1 .1 .0)) year names

@@ -1,7 +1,6 @@
 -- D2 and L2 over the lookups' own promises, inner and exported: each post of an accepted cell is answered as what its word says, one height in
 -- range or void, by its number and by a position, and 0 where 8000 hex stands; and the headers and the post's column alone decide.
 use Prim.Native.Nat.{ℕ, _/_, _%_, _<_, _≤_}
-use native.Mathlib.Omega.{arith}
 use mathlib.Core.Path.{_≡_, sym, ap, subst, _∙_}
 use mathlib.Core.Bool.{true}
 use mathlib.Core.List.{List}
@@ -15,7 +14,6 @@ use Rattle.answers.specs.Told as telling
 use Rattle.answers.proofs.Injective.{told-injective}
 use Rattle.years.specs.declared.Year.{Year}
 use Rattle.years.specs.Years.{Names, under}
-use Rattle.years.proofs.YearLaws.{named-low, under-named}
 use Rattle.host_answers.specs.Packed.{packed}
 use Rattle.host_answers.specs.Apart.{toldIn}
 use Rattle.layout.specs.Grid.{headerBytes}
@@ -47,7 +45,7 @@ use Rattle.dted.proofs.cells.dted_post.Kinds as host-post-kinds
 use Rattle.dted.proofs.cells.dted_position.Reads as host-position
 use Rattle.dted.proofs.cells.dted_position.Kinds as host-position-kinds
 use Rattle.demands.proofs.NamedYears.{post-named, position-named, host-post-named}
-use Rattle.demands.proofs.HostTold.{post-told, position-told}
+use Rattle.demands.proofs.HostTold.{post-told-in, position-told-in}
 
 -- the word that stands there, and what it says
 abbrev pub storedAt : List ℕ → ℕ → ℕ → ℕ
@@ -142,7 +140,8 @@ post-local κs κs' a b r q s t kept kept' n c p alike =
     ∙ (λ k. under (n k) (λ (year : Year). lookedUp year (now (b .1 .0)) (c k) (p k))) ∙ sym kept')
 
 -- lookup of a position
-pub position-answered : (κs : L.Lfts 1) (a : K.Dens κs locate-kinds.ps) (r : _) (s : _) → locate.Post κs a r s → (year : Year) → Names (a .0) year → Cell year (now (a .1 .0)) → (north east : ℕ)
+pub position-answered : (κs : L.Lfts 1) (a : K.Dens κs locate-kinds.ps) (r : _) (s : _) → locate.Post κs a r s → (year : Year) → Names (a .0) year
+    → Cell year (now (a .1 .0)) → (north east : ℕ)
     → northOf (factsIn (now (a .1 .0))) (a .1 .1 .0) ≡ On north → eastOf (factsIn (now (a .1 .0))) (a .1 .1 .1 .0) ≡ On east
     → AnsweredNear year (now (a .1 .0)) north east (told telling.position r)
 position-answered κs a r s kept year names cell north east n e =
@@ -153,7 +152,7 @@ pub host-post-answered : (κs : L.Lfts 1) (a : K.Dens κs host-post-kinds.ps) (r
     → a .1 .1 .0 < factsIn (now (a .1 .0)) .grid .columns → a .1 .1 .1 .0 < factsIn (now (a .1 .0)) .grid .posts
     → Answered year (now (a .1 .0)) (a .1 .1 .0) (a .1 .1 .1 .0) (toldIn r)
 host-post-answered κs a r s kept year names cell hc hp =
-    subst (Answered year (now (a .1 .0)) (a .1 .1 .0) (a .1 .1 .1 .0)) (sym (post-told κs a r s kept (omega (arith, named-low (a .0) year names)) ∙ under-named (a .0) (λ (y : Year). lookedUp y (now (a .1 .0)) (a .1 .1 .0) (a .1 .1 .1 .0)) year names))
+    subst (Answered year (now (a .1 .0)) (a .1 .1 .0) (a .1 .1 .1 .0)) (sym (post-told-in κs a r s kept year names))
     (post-answered-so year (now (a .1 .0)) cell (a .1 .1 .0) (a .1 .1 .1 .0) hc hp)
 
 -- where 8000 hex stands the answer's bits are those of height 0
@@ -161,7 +160,8 @@ pub host-post-zero : (κs : L.Lfts 1) (a : K.Dens κs host-post-kinds.ps) (r : _
     → a .1 .1 .0 < factsIn (now (a .1 .0)) .grid .columns → a .1 .1 .1 .0 < factsIn (now (a .1 .0)) .grid .posts
     → storedAt (now (a .1 .0)) (a .1 .1 .0) (a .1 .1 .1 .0) ≡ negativeZero → r ≡ 0x0002000000000000
 unfolding packed
-host-post-zero κs a r s kept year names cell hc hp e = host-post-named κs a r s kept year names ∙ ap packed (post-answered-so year (now (a .1 .0)) cell (a .1 .1 .0) (a .1 .1 .1 .0) hc hp .zero e)
+host-post-zero κs a r s kept year names cell hc hp e = host-post-named κs a r s kept year names
+    ∙ ap packed (post-answered-so year (now (a .1 .0)) cell (a .1 .1 .0) (a .1 .1 .1 .0) hc hp .zero e)
 
 pub host-post-local : (κs κs' : L.Lfts 1) (a : K.Dens κs host-post-kinds.ps) (b : K.Dens κs' host-post-kinds.ps) (r q : _) (s t : _)
     → host-post.Post κs a r s → host-post.Post κs' b q t → a .0 ≡ b .0 → a .1 .1 .0 ≡ b .1 .1 .0 → a .1 .1 .1 .0 ≡ b .1 .1 .1 .0
@@ -170,9 +170,10 @@ host-post-local κs κs' a b r q s t kept kept' n c p alike =
     kept ∙ ap packed (alike-under (a .0) (now (a .1 .0)) (now (b .1 .0)) (a .1 .1 .0) (a .1 .1 .1 .0) alike)
     ∙ (λ k. packed (under (n k) (λ (year : Year). lookedUp year (now (b .1 .0)) (c k) (p k)))) ∙ sym kept'
 
-pub host-position-answered : (κs : L.Lfts 1) (a : K.Dens κs host-position-kinds.ps) (r : _) (s : _) → host-position.Post κs a r s → (year : Year) → Names (a .0) year → Cell year (now (a .1 .0))
+pub host-position-answered : (κs : L.Lfts 1) (a : K.Dens κs host-position-kinds.ps) (r : _) (s : _) → host-position.Post κs a r s → (year : Year) → Names (a .0) year
+    → Cell year (now (a .1 .0))
     → (north east : ℕ) → northOf (factsIn (now (a .1 .0))) (a .1 .1 .0) ≡ On north → eastOf (factsIn (now (a .1 .0))) (a .1 .1 .1 .0) ≡ On east
     → AnsweredNear year (now (a .1 .0)) north east (toldIn r)
 host-position-answered κs a r s kept year names cell north east n e =
-    subst (AnsweredNear year (now (a .1 .0)) north east) (sym (position-told κs a r s kept (omega (arith, named-low (a .0) year names)) ∙ under-named (a .0) (λ (y : Year). located y (now (a .1 .0)) (a .1 .1 .0) (a .1 .1 .1 .0)) year names))
+    subst (AnsweredNear year (now (a .1 .0)) north east) (sym (position-told-in κs a r s kept year names))
     (position-answered-so year (now (a .1 .0)) cell (a .1 .1 .0) (a .1 .1 .1 .0) north east n e)

@@ -96,14 +96,16 @@ module _ (year : Year) (d : Description) (e : inRange d ≡ true) where
 
   -- D3: a refused call and then one that was done, which leaves 8000 hex in every post but its own
   pub sea-edited : (κs κs' : L.Lfts 1) (a : K.Dens κs kinds.ps) (b : K.Dens κs' kinds.ps) (r q : Outcome) (s t : _)
-      → edit.Post κs a r s → edit.Post κs' b q t → Names (a .0) year → Names (b .0) year → a .1 .0 .now ≡ seaCell d → b .1 .0 .now ≡ s .1 .0 .now → Bytes (seaCell d) → inner.isDone r ≡ false → inner.isDone q ≡ true
+      → edit.Post κs a r s → edit.Post κs' b q t → Names (a .0) year → Names (b .0) year → a .1 .0 .now ≡ seaCell d → b .1 .0 .now ≡ s .1 .0 .now → Bytes (seaCell d)
+      → inner.isDone r ≡ false → inner.isDone q ≡ true
       → t .1 .0 .now ≡ withReplaced (factsIn (seaCell d) .grid) (seaCell d) (inner.callOf κs' b ∷ [])
   sea-edited κs κs' a b r q s t kept kept' names names' sea same bytes refused done =
       inner.refused-then-done year κs κs' a b r q s t kept kept' names names' same (subst (Cell year) (sym sea) sea-accepted) (subst Bytes (sym sea) bytes) refused done
       ∙ ap (λ (l : List ℕ). withReplaced (factsIn l .grid) l (inner.callOf κs' b ∷ [])) sea
 
   pub host-sea-edited : (κs κs' : L.Lfts 1) (a : K.Dens κs host-kinds.ps) (b : K.Dens κs' host-kinds.ps) (r q : ℕ) (s t : _)
-      → host-edit.Post κs a r s → host-edit.Post κs' b q t → Names (a .0) year → Names (b .0) year → a .1 .0 .now ≡ seaCell d → b .1 .0 .now ≡ s .1 .0 .now → Bytes (seaCell d) → host.isDone r ≡ false → host.isDone q ≡ true
+      → host-edit.Post κs a r s → host-edit.Post κs' b q t → Names (a .0) year → Names (b .0) year → a .1 .0 .now ≡ seaCell d → b .1 .0 .now ≡ s .1 .0 .now
+      → Bytes (seaCell d) → host.isDone r ≡ false → host.isDone q ≡ true
       → t .1 .0 .now ≡ withReplaced (factsIn (seaCell d) .grid) (seaCell d) (host.callOf κs' b ∷ [])
   host-sea-edited κs κs' a b r q s t kept kept' names names' sea same bytes refused done =
       host.refused-then-done year κs κs' a b r q s t kept kept' names names' same (subst (Cell year) (sym sea) sea-accepted) (subst Bytes (sym sea) bytes) refused done
