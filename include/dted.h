@@ -71,15 +71,16 @@ enum {
 /* Heights are metres, -12,000 to 9,000. A post without a height is this; the rule year says which cells may hold it. */
 #define DTED_VOID (-32767)
 
-/* Rule years: dted_intake, both lookups, dted_edit and dted_write are given one. A cell may hold voids
+/* Rule years, 1 or 2 and no calendar years: dted_intake, both lookups, dted_edit and dted_write are given one. A cell may hold voids
  *   under DTED_YEAR_1 where its DTED_PARTIAL is not 0,
  *   under DTED_YEAR_2 where that is so and it is of level 2, as the DTED performance specification asks (3.5.4, 3.5.5).
  * Nothing else depends on the year. A void that is stored elsewhere is DTED_WORD, one that is given there DTED_HEIGHT. DTED_PARTIAL
  * itself is not judged by the year: a cell that holds no void is accepted under both or neither.
- * A host names DTED_YEAR_2 for every delivery since the year of version 0.5.0, and DTED_YEAR_1 for older ones, whose cells of levels 0
- * and 1 may hold voids. A cell that is accepted under DTED_YEAR_2 is accepted under DTED_YEAR_1 too, with equal posts; so a host that does
- * not know how old a file is judges it under DTED_YEAR_2, and where that is refused as DTED_WORD may take DTED_YEAR_1, knowingly.
- * All calls on one cell name one year, edits in particular: what dted(3) says of a cell after edits is said of one year. */
+ * A host names DTED_YEAR_2 for new deliveries, and DTED_YEAR_1 for older ones, whose cells of levels 0 and 1 may hold voids. A cell that
+ * is accepted under DTED_YEAR_2 is accepted under DTED_YEAR_1 too, with equal posts; so a host that does not know how old a file is
+ * judges it under DTED_YEAR_2, and where that is refused as DTED_WORD may take DTED_YEAR_1, knowingly.
+ * No call remembers a year. What dted(3) says of a cell after edits is said of edits that all name one year, under which the cell is
+ * accepted. */
 enum { DTED_YEAR_1 = 1, DTED_YEAR_2 = 2 };
 
 /* Bytes before the first column, before the first post of a column, and of the longest column and cell. Whoever reads a file into
@@ -153,8 +154,8 @@ DTED_MUST_USE dted_answer dted_grid(uint64_t level, int64_t latitude);
 DTED_MUST_USE dted_answer dted_write(uint32_t year, uint8_t *out, size_t room, const int64_t items[DTED_ITEMS], const uint8_t *grid, size_t bytes);
 
 /* Writes one column from a level, its number and its posts, voids allowed, at the front of `out`; bytes past it stay. Posts as in
- * a grid. A cell takes a column with voids only where its rule year allows them. Order: 9 (item 1), 8 (a number not below the level's
- * columns at the equator), 10, 11, 12. The answer holds nothing. */
+ * a grid. A cell with voids in a column is accepted only where the year of the call that judges it allows them. Order: 9 (item 1), 8 (a
+ * number not below the level's columns at the equator), 10, 11, 12. The answer holds nothing. */
 DTED_MUST_USE dted_answer dted_write_column(uint8_t *out, size_t room, uint64_t level, uint64_t number, const uint8_t *posts, size_t bytes);
 
 #ifdef __cplusplus

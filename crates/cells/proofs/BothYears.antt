@@ -1,4 +1,4 @@
--- V1: a cell under both years: one that follows year 2's rules follows year 1's; at level 2, complete or without voids, both years' or neither's.
+-- Y2: a cell under both years: one that follows year 2's rules follows year 1's; at level 2, complete or without voids, both years' or neither's.
 use Prim.Native.Nat.{ℕ, _<_}
 use mathlib.Core.Path.{_≡_, refl, sym, subst, _∙_}
 use mathlib.Core.Bool.{Bool, true, false, true≢false}

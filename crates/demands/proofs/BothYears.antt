@@ -1,4 +1,4 @@
--- V1 over the calls' own promises, inner and exported: a cell that a call of intake accepts under year 2 is accepted under year 1 with the same
+-- Y2 over the calls' own promises, inner and exported: a cell that a call of intake accepts under year 2 is accepted under year 1 with the same
 -- answer, and each lookup on it answers the same under both; where the headers are those of level 2, or of a complete cell, every call answers and
 -- leaves the same under any two years, whatever the bytes are.
 use Prim.Native.Nat.{ℕ}

@@ -1,4 +1,4 @@
--- Demand 3 over the edit's own promise (rule D3): calls that keep it, in any sequence, leave the old bytes with the edited words and their checksums replaced.
+-- Demand 3 over the edit's own promise (rule D3): calls that keep it, in any sequence under one year, leave the old bytes with the edited words and their checksums replaced.
 use Prim.Native.Nat.{ℕ}
 use mathlib.Core.Path.{_≡_, refl, sym, ap, subst}
 use mathlib.Core.Bool.{Bool, true, false}

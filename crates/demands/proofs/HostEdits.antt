@@ -1,4 +1,4 @@
--- D3 for a C host: calls of the edit, each of which keeps its promise, in any sequence leave the old bytes with the edited words and their checksums replaced.
+-- D3 for a C host: calls of the edit, each of which keeps its promise, in any sequence under one year leave the old bytes with the edited words and their checksums replaced.
 use Prim.Native.Nat.{ℕ}
 use mathlib.Core.Path.{_≡_, subst}
 use mathlib.Core.Bool.{Bool, true, false}

@@ -1,4 +1,4 @@
--- D2 for a C host: what a call of the writer leaves, where it answered 0, is read back whole by any later call.
+-- D2 for a C host: what a call of the writer leaves, where it answered 0, is read back whole by any later call that names the same year.
 use Prim.Native.Nat.{ℕ, _<_}
 use mathlib.Core.Path.{_≡_, sym, ap, _∙_}
 use mathlib.Core.List.{List, _++_}

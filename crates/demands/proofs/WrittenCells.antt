@@ -1,4 +1,4 @@
--- D2 over the promises themselves: what a call of the writer leaves, where it was done, is read back whole by any later call.
+-- D2 over the promises themselves: what a call of the writer leaves, where it was done, is read back whole by any later call that names the same year.
 use Prim.Native.Nat.{ℕ, _<_}
 use mathlib.Core.Path.{_≡_, sym, ap, subst, _∙_}
 use mathlib.Core.List.{List, _++_}

@@ -43,7 +43,7 @@ module _ {year : Year} (f : Frame) (h ws : List ℕ) (headed : Headed year f h) 
   abbrev s : List ℕ
   s = cellOfWords h (f .grid) ws
 
-  -- what follows the headers is reached year under their frame
+  -- what follows the headers is reached under their frame
   pub reached-made : (c p : ℕ) → reached year (cellOfWords h (f .grid) ws) c p ≡ reachedIn (cellOfWords h (f .grid) ws) f c p
   reached-made c p =
       reached-under year s c p (made-cell f h ws headed made .headers) ∙ ap (λ (x : Frame). reachedIn s x c p) (made-frame f h ws headed made)

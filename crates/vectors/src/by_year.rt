@@ -1,4 +1,4 @@
-// The rule year: a partial level 0 cell with a void under each, and under years that there are not, at once and step by step.
+// The rule year: a partial level 0 cell with a void under each and under years that there are not, and steps under one of these.
 use crate::CELL;
 use crate::OUTPUT;
 use steps::Steps;
