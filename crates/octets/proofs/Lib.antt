@@ -18,3 +18,5 @@ pub mod JoinedLaws
 pub mod WordLaws
 pub mod Signed
 pub mod ByteLaws
+pub mod TwosLaws
+pub mod ExtremeLaws

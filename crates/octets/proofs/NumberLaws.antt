@@ -1,9 +1,9 @@
 -- Laws of numbers in bytes: what stands there is what was put, for any number of bytes.
-use Prim.Native.Nat.{ℕ, _+_, _*_, _^_, _<_, _≤_}
+use Prim.Native.Nat.{ℕ, _+_, _*_, _/_, _%_, _^_, _<_, _≤_}
 use native.Mathlib.Nat.{add-zero}
 use native.Mathlib.Omega.{arith}
 use mathlib.Core.Path.{_≡_, sym, ap, _∙_}
-use mathlib.Core.List.{List}
+use mathlib.Core.List.{List, [], _∷_}
 use lib.Dec.{lit<}
 use lib.ListN.{length, getD, take, drop}
 use lib.Seq.{getD-drop}
@@ -43,3 +43,11 @@ number-below s at n f = value-below 256 (λ (i : ℕ). getD s (at + i) 0) n (λ 
 pub number-two : (s : List ℕ) (at : ℕ) → numberAt s at 2 ≡ getD s at 0 * 256 + getD s (at + 1) 0
 unfolding value
 number-two s at = rw (add-zero at) (omega arith)
+
+-- a word's two bytes exchanged, and the low one put first
+pub swapped-bytes : (v : ℕ) → v < 0x10000 → bytesOf 2 v ≡ (v % 256 * 256 + v / 256) % 256 ∷ (v % 256 * 256 + v / 256) / 256 ∷ []
+unfolding places
+swapped-bytes v h =
+    let high : v / 256 % 256 ≡ (v % 256 * 256 + v / 256) % 256 = omega arith in
+    let low : v % 256 ≡ (v % 256 * 256 + v / 256) / 256 = omega arith in
+    ap (λ (b : ℕ). b ∷ v % 256 ∷ []) high ∙ ap (λ (b : ℕ). (v % 256 * 256 + v / 256) % 256 ∷ b ∷ []) low

@@ -1,12 +1,12 @@
 -- Laws of byte sums: what is left, one byte replaced, bounds.
-use Prim.Native.Nat.{ℕ, zero, suc, _+_, _*_, _≤_, _<_}
-use mathlib.Core.Path.{_≡_}
+use Prim.Native.Nat.{ℕ, zero, suc, _+_, _*_, _-_, _/_, _%_, _≤_, _<_}
+use mathlib.Core.Path.{_≡_, refl, sym, _∙_}
 use mathlib.Core.List.{List, [], _∷_, _++_}
 use native.Mathlib.Numerals.{add-one}
 use native.Mathlib.Omega.{arith}
 use lib.ListN.{length, getD, set, take, drop, drop-of-length-le}
 use lib.Seq.{drop-cons}
-use Rattle.octets.specs.Sums.{sumOf}
+use Rattle.octets.specs.Sums.{sumOf, lowsOf}
 
 pub sum-step : (l : List ℕ) (i : ℕ) → i < length l → sumOf (drop i l) ≡ getD l i 0 + sumOf (drop (i + 1) l)
 unfolding sumOf
@@ -40,3 +40,36 @@ unfolding sumOf
 sum-take zero l = omega arith
 sum-take (suc n) [] = omega arith
 sum-take (suc n) (x ∷ l) = omega (arith, sum-take n l)
+
+-- what is taken off in 16 bits and put on again, and that it is the one number of 16 bits that gives the whole
+off-on : (t b : ℕ) → t < 0x10000 → b < 0x10000 → ((t + 0x10000 - b) % 0x10000 + b) % 0x10000 ≡ t
+off-on t b h k = omega arith
+
+only : (x y b : ℕ) → x < 0x10000 → y < 0x10000 → (x + b) % 0x10000 ≡ (y + b) % 0x10000 → x ≡ y
+only x y b h k e = omega arith
+
+pub lows-only : (words highs x : ℕ) → words < 0x10000 → x < 0x10000 → (x + highs % 256 * 256) % 0x10000 ≡ words → x ≡ lowsOf words highs
+unfolding lowsOf
+lows-only words highs x h k e =
+    only x ((words + 0x10000 - highs % 256 * 256) % 0x10000) (highs % 256 * 256) k (omega arith) (e ∙ sym (off-on words (highs % 256 * 256) h (omega arith)))
+
+pub lows-on : (words highs : ℕ) → words < 0x10000 → (lowsOf words highs + highs % 256 * 256) % 0x10000 ≡ words
+unfolding lowsOf
+lows-on words highs h = off-on words (highs % 256 * 256) h (omega arith)
+
+-- the low bytes of words, one word on, where 16 bits hold their sum
+one-on : (lows high a b : ℕ) → high < 256 → ((lows + high * 256) % 0x10000 + (a * 256 + b)) % 0x10000 ≡ (lows + b + (high + a) % 256 * 256) % 0x10000
+one-on lows high a b h = omega arith
+
+pub lows-step : (words highs w : ℕ) → words < 0x10000 → lowsOf words highs + w % 256 < 0x10000
+    → lowsOf ((words + w) % 0x10000) (highs + w / 256) ≡ lowsOf words highs + w % 256
+lows-step words highs w k h =
+    let highs′ : (highs + w / 256) % 256 ≡ (highs % 256 + w / 256) % 256 = omega arith in
+    let w′ : w / 256 * 256 + w % 256 ≡ w = omega arith in
+    let whole : (words + w) % 0x10000 ≡ (lowsOf words highs + w % 256 + (highs % 256 + w / 256) % 256 * 256) % 0x10000 =
+    rw (lows-on words highs k, w′) at (one-on (lowsOf words highs) (highs % 256) (w / 256) (w % 256) (omega arith)) in
+    sym (lows-only ((words + w) % 0x10000) (highs + w / 256) (lowsOf words highs + w % 256) (omega arith) h (rw highs′ (sym whole)))
+
+pub lows-none : lowsOf 0 0 ≡ 0
+unfolding lowsOf
+lows-none = refl

@@ -6,6 +6,7 @@ pub mod Scan
 pub mod Places
 pub mod Numbers
 pub mod Sums
+pub mod Twos
 pub mod Digits
 pub mod Texts
 pub mod Pastes

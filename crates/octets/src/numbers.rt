@@ -1,7 +1,8 @@
 // Numbers in two, three and four bytes, high byte first: read, and put over what stands there.
 ghost use mathlib.Core.Path.{_≡_};
-ghost use Prim.Native.Nat.{_+_, _<_, _≤_};
-ghost use lib.ListN.{length};
+ghost use mathlib.Core.List.{[], _∷_};
+ghost use Prim.Native.Nat.{_+_, _*_, _/_, _%_, _<_, _≤_};
+ghost use lib.ListN.{length, getD};
 ghost use Rattle.octets.specs.Numbers.{numberAt, bytesOf};
 ghost use Rattle.octets.specs.Pastes.{pasted};
 
@@ -18,11 +19,20 @@ fn wide16(x: u8) -> u16
     x as u16
 }
 
+// Two bytes, the low one first, as the machine has them: by itself, so that a compiler makes one load of the two before it swaps them.
+fn low_first(s: &[u8], at: usize) -> u16
+    requires { ⌜ at + 2 ≤ length (now s) ⌝ }
+    ensures { λ r. ⌜ (r ≡ getD (now (s .entry)) at 0 + getD (now (s .entry)) (at + 1) 0 * 256) × (getD (now (s .entry)) at 0 < 256) ⌝ }
+{
+    wide16(s[at]) + wide16(s[at + 1]) * 256
+}
+
 pub fn be16(s: &[u8], at: usize) -> u16
     requires { ⌜ at + 2 ≤ length (now s) ⌝ }
     ensures { λ r. ⌜ r ≡ numberAt (now (s .entry)) at 2 ⌝ }
 {
-    wide16(s[at]) * 256 + wide16(s[at + 1])
+    let swapped = low_first(s, at);
+    swapped % 256 * 256 + swapped / 256
 }
 
 pub fn be24(s: &[u8], at: usize) -> u32
@@ -39,12 +49,20 @@ pub fn be32(s: &[u8], at: usize) -> u32
     be24(s, at) * 256 + wide(s[at + 3])
 }
 
+// The low byte first: by itself, so that a compiler makes one store of the two.
+fn put_low_first(s: &mut [u8], at: usize, v: u16)
+    requires { ⌜ at + 2 ≤ length (now s) ⌝ }
+    ensures { λ _. ⌜ now (s .exit) ≡ pasted (now (s .entry)) at (v % 256 ∷ v / 256 ∷ []) ⌝ }
+{
+    s[at] = (v % 256) as u8;
+    s[at + 1] = (v / 256) as u8;
+}
+
 pub fn put16(s: &mut [u8], at: usize, v: u16)
     requires { ⌜ at + 2 ≤ length (now s) ⌝ }
     ensures { λ _. ⌜ now (s .exit) ≡ pasted (now (s .entry)) at (bytesOf 2 v) ⌝ }
 {
-    s[at] = (v / 256 % 256) as u8;
-    s[at + 1] = (v % 256) as u8;
+    put_low_first(s, at, v % 256 * 256 + v / 256);
 }
 
 // The low three bytes of a number.

@@ -1,8 +1,8 @@
 // The sum of bytes, as a column's checksum has it.
 ghost use mathlib.Core.Path.{_≡_};
-ghost use Prim.Native.Nat.{_≤_};
+ghost use Prim.Native.Nat.{_+_, _≤_};
 ghost use lib.ListN.{length};
-ghost use Rattle.octets.specs.Sums.{sumOf};
+ghost use Rattle.octets.specs.Sums.{sumOf, lowsOf};
 
 // The sum of the bytes of `part`, few enough that 32 bits hold it.
 pub fn sum(part: &[u8]) -> u32
@@ -16,4 +16,12 @@ pub fn sum(part: &[u8]) -> u32
         i += 1;
     }
     sum
+}
+
+// The sum of the bytes of words, from the words' sum, of which 16 bits are kept, and the sum of their high bytes.
+pub fn bytes_of(words: u16, highs: u16) -> u32
+    ensures { λ r. ⌜ r ≡ highs + lowsOf words highs ⌝ }
+{
+    let lows = std::num::wrapping_sub_u16(words, highs % 256 * 256);
+    highs as u32 + lows as u32
 }

@@ -13,14 +13,15 @@ use Rattle.octets.specs.Choice.{both}
 use Rattle.octets.specs.Parts.{listed, part}
 use Rattle.octets.specs.Places.{value}
 use Rattle.octets.specs.Ranges.{between}
+use Rattle.octets.specs.Twos.{twosOf, twosWord}
 use Rattle.octets.proofs.ChoiceLaws.{by-equal}
 use Rattle.octets.proofs.JoinedLaws.{length-listed, getD-listed, listed-is, length-part, getD-part, part-within}
 use Rattle.octets.proofs.ListLaws.{mapped}
 use Rattle.octets.proofs.WordLaws.{length-words, Fit, word-there}
 use Rattle.posts.specs.Words.{inRange}
 use Rattle.posts.specs.Heights.{heightAllowed, wordOf}
-use Rattle.sources.specs.Heights.{Heights, numbers, inBytes, countOf, nthHeight, heightsOf, heightsInBytes, Counts, counts, heightWords, twosOf, twosWord, bytesFor}
-use Rattle.sources.proofs.TwosWords.{twos-back}
+use Rattle.sources.specs.Heights.{Heights, numbers, inBytes, countOf, nthHeight, heightsOf, heightsInBytes, Counts, counts, heightWords, bytesFor}
+use Rattle.octets.proofs.TwosLaws.{twos-back}
 
 -- so many heights are given exactly where the test says so
 pub counts-if : (g : Heights) (n : ℕ) → Counts g n → counts g n ≡ true

@@ -1,3 +1,2 @@
 -- The laws of heights that are given.
-pub mod TwosWords
 pub mod HeightLaws

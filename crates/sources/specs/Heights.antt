@@ -1,21 +1,17 @@
 -- A writer's heights (rules W1 and B2): 16-bit numbers, or two's complement words in bytes, the high byte first.
-use Prim.Native.Nat.{ℕ, _+_, _*_, _-_, _/_}
+use Prim.Native.Nat.{ℕ, _+_, _*_, _/_}
 use mathlib.Core.Path.{_≡_}
 use mathlib.Core.Bool.{Bool}
 use mathlib.Core.List.{List, map}
-use lib.Dec.{ltb, eqb}
-use lib.IntN.{ℤ, pos, negsuc, _-ℤ_}
+use lib.Dec.{eqb}
+use lib.IntN.{ℤ, pos}
 use lib.ListN.{length, getD}
-use Rattle.octets.specs.Choice.{pick}
 use Rattle.octets.specs.Numbers.{numberAt, bytesOfWords}
 use Rattle.octets.specs.Parts.{listed}
+use Rattle.octets.specs.Twos.{twosOf, twosWord}
 use Rattle.posts.specs.Heights.{wordOf}
 use Rattle.sources.specs.declared.Source.{Source}
 use Rattle.sources.specs.declared.Source.the-variants as source
-
--- B2: a word of 16 bits as a two's complement number
-unfoldable pub twosOf : ℕ → ℤ
-twosOf w = pick (ltb w 0x8000) (pos w) (pos w -ℤ pos 0x10000)
 
 pub data Heights : Type 0 where
   numbers : List ℤ → Heights
@@ -56,10 +52,6 @@ counts (inBytes bs) n = eqb (length bs) (2 * n)
 abbrev pub heightWords : Heights → ℕ → ℕ → List ℕ
 heightWords g first n = listed (λ (i : ℕ). wordOf (nthHeight g (first + i))) n
 
--- B2: the other way, for heights of 16 bits: the word of a height, and the bytes of heights; `negsuc n` is -(n + 1)
-abbrev pub twosWord : ℤ → ℕ
-twosWord (pos n) = n
-twosWord (negsuc n) = 0x10000 - (n + 1)
-
+-- B2: the other way, for heights of 16 bits: their bytes
 abbrev pub bytesFor : List ℤ → List ℕ
 bytesFor zs = bytesOfWords (map twosWord zs)

@@ -2,26 +2,16 @@
 // every source.
 ghost use mathlib.Core.Path.{_≡_};
 ghost use Prim.Native.Nat.{_<_};
-ghost use Rattle.sources.specs.Heights.{twosOf, heightsFrom, countOf, nthHeight, counts};
+ghost use Rattle.sources.specs.Heights.{heightsFrom, countOf, nthHeight, counts};
 use octets::choices::both;
 use octets::numbers::be16;
+use octets::twos::number_of;
 
 pub enum Source {
     // 16-bit numbers
     Numbers,
     // two's complement words in bytes, the high byte first
     Bytes,
-}
-
-// A word as a two's complement number; no cast may lose a bit.
-fn twos(word: u16) -> i16
-    ensures { λ r. ⌜ r ≡ twosOf word ⌝ }
-{
-    if word < 0x8000 {
-        return word as i16;
-    }
-    let below = (0xFFFF - word) as i16;
-    -1 - below
 }
 
 // Height i of those that are given.
@@ -31,7 +21,7 @@ pub fn height_at(source: Source, numbers: &[i16], bytes: &[u8], i: usize) -> i16
 {
     match source {
         Source::Numbers => numbers[i],
-        Source::Bytes => twos(be16(bytes, 2 * i)),
+        Source::Bytes => number_of(be16(bytes, 2 * i)),
     }
 }
 

@@ -35,14 +35,14 @@ mul-be16 c = omega (arith, bytes-there c)
 be16-requires : tie.Need-be16-requires
 be16-requires c κs = bytes-there c
 
-twos-requires : tie.Need-twos-requires
-twos-requires c κs = search needs
+number-of-requires : tie.Need-number-of-requires
+number-of-requires c κs = search needs
 
 returns : tie.Need-returns
 returns c = rw (c .before .enum-told .given .1) (toZ-ofZ {w = w16} (record { sfits = c .result .given }))
 
 returns-2 : tie.Need-returns-2
-returns-2 c = rw (c .before .before .enum-told2 .given .1) (toZ-ofZ {w = w16} (record { sfits = c .twos .ok }) ∙ rw (c .before .be16 .ensures) at (c .twos .ensures))
+returns-2 c = rw (c .before .before .enum-told2 .given .1) (toZ-ofZ {w = w16} (record { sfits = c .number-of .ok }) ∙ rw (c .before .be16 .ensures) at (c .number-of .ensures))
 
 pub height-at-spec : {M : Type 1} → statement M
 height-at-spec =
@@ -54,6 +54,6 @@ height-at-spec =
     enum-told-2
     mul-be16
     be16-requires
-    twos-requires
+    number-of-requires
     returns
     returns-2)

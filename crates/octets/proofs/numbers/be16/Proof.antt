@@ -1,27 +1,15 @@
--- `be16` reads two bytes.
+-- `be16` swaps the two bytes.
 use Rattle.octets.proofs.NumberLaws.{number-two}
+use native.Mathlib.Omega.{arith}
+use borrow.Author.Needs.{needs}
 use Rattle.octets.proofs.numbers.be16.Statement.{statement}
 use Rattle.octets.proofs.numbers.be16.Tie as tie
-use borrow.Author.Needs.{needs}
-use native.Mathlib.Omega.{arith}
 
-shared-slice-read-wide16 : tie.Need-shared-slice-read-wide16
-shared-slice-read-wide16 c = search needs
-
-wide16-requires : tie.Need-wide16-requires
-wide16-requires c κs = search needs
+low-first-requires : tie.Need-low-first-requires
+low-first-requires c κs = search needs
 
 mul-result : tie.Need-mul-result
 mul-result c = search needs
-
-add-wide16 : tie.Need-add-wide16
-add-wide16 c = search needs
-
-shared-slice-read-wide16-2 : tie.Need-shared-slice-read-wide16-2
-shared-slice-read-wide16-2 c = search needs
-
-wide16-requires-2 : tie.Need-wide16-requires-2
-wide16-requires-2 c κs = search needs
 
 add-result : tie.Need-add-result
 add-result c = search needs
@@ -30,14 +18,4 @@ returns : tie.Need-returns
 returns c = rw number-two (omega arith)
 
 pub be16-spec : {M : Type 1} → statement M
-be16-spec =
-    tie.close
-    (tie.spec
-    shared-slice-read-wide16
-    wide16-requires
-    mul-result
-    add-wide16
-    shared-slice-read-wide16-2
-    wide16-requires-2
-    add-result
-    returns)
+be16-spec = tie.close (tie.spec low-first-requires mul-result add-result returns)

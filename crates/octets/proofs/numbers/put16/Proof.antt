@@ -1,35 +1,26 @@
--- `put16` stores two bytes: a paste.
-use Rattle.octets.proofs.PasteLaws.{stores}
+-- `put16`: swapped, the two bytes are the word's, the high one first.
+use Rattle.octets.proofs.NumberLaws.{swapped-bytes}
+use borrow.Author.Needs.{needs}
+use native.Mathlib.Omega.{arith}
 use Rattle.octets.proofs.numbers.put16.Statement.{statement}
 use Rattle.octets.proofs.numbers.put16.Tie as tie
-use Rattle.octets.specs.Places.{places}
-use borrow.Author.Needs.{needs}
-use lib.ListN.{length-set}
-use native.Mathlib.Numerals.{add-one}
-use native.Mathlib.Omega.{arith}
 
-cast-s : tie.Need-cast-s
-cast-s c = search needs
+mul-put-low-first : tie.Need-mul-put-low-first
+mul-put-low-first c = search needs
 
-slice-write-s : tie.Need-slice-write-s
-slice-write-s c = search needs
+add-put-low-first : tie.Need-add-put-low-first
+add-put-low-first c = search needs
 
-cast-s-2 : tie.Need-cast-s-2
-cast-s-2 c = search needs
-
-add-s : tie.Need-add-s
-add-s c = search needs
-
-slice-write-s-2 : tie.Need-slice-write-s-2
-slice-write-s-2 c = simp length-set (omega arith)
+put-low-first-requires : tie.Need-put-low-first-requires
+put-low-first-requires c κs = search needs
 
 same-length : tie.Need-same-length
 same-length c = search needs
 
 returns : tie.Need-returns
-unfolding places
-returns c = rw add-one (stores _ _ _ (c .pre))
+returns c = rw (swapped-bytes (c .before .before .before .before .before .args .v) (omega arith)) (c .before .before .put-low-first .ensures)
 
 pub put16-spec : {M : Type 1} → statement M
 put16-spec =
-    tie.close (tie.spec cast-s slice-write-s cast-s-2 add-s slice-write-s-2 same-length returns)
+    tie.close
+    (tie.spec mul-put-low-first add-put-low-first put-low-first-requires same-length returns)

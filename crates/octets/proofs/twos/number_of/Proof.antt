@@ -1,7 +1,7 @@
--- `twos`: below the sign bit, and from it on.
-use Rattle.sources.proofs.TwosWords.{low, high, high-fits}
-use Rattle.sources.proofs.twos.Statement.{statement}
-use Rattle.sources.proofs.twos.Tie as tie
+-- `twos::number_of`: below the sign bit, and from it on.
+use Rattle.octets.proofs.TwosLaws.{low, high, high-fits}
+use Rattle.octets.proofs.twos.number_of.Statement.{statement}
+use Rattle.octets.proofs.twos.number_of.Tie as tie
 use borrow.Author.Needs.{needs}
 use mir.Facts.{toZ-ofZ}
 use native.Mathlib.Omega.{arith}
@@ -28,5 +28,5 @@ returns-2 c =
     let w = c .before .args .word in
     rw (high w (c .if1 .left) (omega arith)) (toZ-ofZ (high-fits w (c .if1 .left) (omega arith)))
 
-pub twos-spec : {M : Type 1} → statement M
-twos-spec = tie.close (tie.spec cast-result returns sub-below cast-below sub-result returns-2)
+pub number-of-spec : {M : Type 1} → statement M
+number-of-spec = tie.close (tie.spec cast-result returns sub-below cast-below sub-result returns-2)

@@ -9,9 +9,9 @@ use mir.Syntax.{w16}
 use mir.Val.{SFits, toZ}
 use mir.Facts.{toZ-pos}
 use borrow.Author.Tests.{lt-ltb, le-ltb, leb-true}
 use Rattle.octets.specs.Ranges.{between}
 use Rattle.octets.proofs.ChoiceLaws.{both-true}
-use Rattle.sources.specs.Heights.{twosOf, twosWord}
+use Rattle.octets.specs.Twos.{twosOf, twosWord}
 
 -- a word below the sign bit is itself; any other, as far below -1 as it lies below FFFF hex
 twos-low : (w : ℕ) → w < 0x8000 → twosOf w ≡ pos w
@@ -49,3 +49,10 @@ fits-16 (negsuc n) e = record { sfits = omega (arith, leb-true n 32767 (both-tru
 
 pub twos-back : (z : ℤ) → between (negℤ (pos 32768)) (pos 32767) z ≡ true → (twosWord z < 0x10000) × (twosOf (twosWord z) ≡ z)
 twos-back z e = back z (fits-16 z e)
+
+-- the word of a number, as the machine makes it
+pub word-below : (z : ℤ) (n : ℕ) → z ≡ negsuc n → 0xFFFF - n ≡ twosWord z
+word-below z n e = rw e (omega arith)
+
+pub word-from-zero : (z : ℤ) (n : ℕ) → z ≡ pos n → n ≡ twosWord z
+word-from-zero z n e = rw e
