@@ -2,7 +2,8 @@
 use Prim.Native.Nat.{ℕ, _+_, _^_, _<_, _≤_}
 use mathlib.Core.Path.{_≡_}
 use mathlib.Core.List.{List}
-use lib.ListN.{length}
+use lib.ListN.{length, take}
+use Rattle.octets.specs.Sums.{sumOf}
 use Rattle.layout.specs.Levels.{columnBytes}
 use Rattle.sources.specs.Heights.{Heights, countOf}
 use Rattle.columns.specs.Column.{sumAt}
@@ -12,6 +13,18 @@ pub record Whole (column : List ℕ) (posts base : ℕ) : Type 0 where
   pub long : length column ≡ columnBytes posts
   pub few : posts ≤ 3601
   pub end : base + columnBytes posts < 2 ^ 64
+
+-- such a column, wherever it ends
+pub record Full (column : List ℕ) (posts : ℕ) : Type 0 where
+  pub long : length column ≡ columnBytes posts
+  pub few : posts ≤ 3601
+
+-- such a column and end, and the sum of what stands before its checksum
+pub record WholeSummed (column : List ℕ) (posts base sum : ℕ) : Type 0 where
+  pub long : length column ≡ columnBytes posts
+  pub few : posts ≤ 3601
+  pub end : base + columnBytes posts < 2 ^ 64
+  pub summed : sum ≡ sumOf (take (sumAt posts) column)
 
 -- so many heights from height `first` on, and an end of theirs that 64 bits hold
 pub record Reaches (g : Heights) (first posts : ℕ) : Type 0 where

@@ -51,3 +51,11 @@ swapped-bytes v h =
     let high : v / 256 % 256 ≡ (v % 256 * 256 + v / 256) % 256 = omega arith in
     let low : v % 256 ≡ (v % 256 * 256 + v / 256) / 256 = omega arith in
     ap (λ (b : ℕ). b ∷ v % 256 ∷ []) high ∙ ap (λ (b : ℕ). (v % 256 * 256 + v / 256) % 256 ∷ b ∷ []) low
+
+-- two bytes read with the low one first, and exchanged: what the halves then are
+pub swapped-halves : (a b v : ℕ) → a < 256 → b < 256 → v ≡ a + b * 256
+    → ((v % 256 * 256 + v / 256) / 256 ≡ a) × ((v % 256 * 256 + v / 256) % 256 ≡ b)
+swapped-halves a b v h k e =
+    let low : v % 256 ≡ a = omega arith in
+    let high : v / 256 ≡ b = omega arith in
+    rw (low, high) (omega arith, omega arith)

@@ -1,11 +1,11 @@
 -- Laws of byte sums: what is left, one byte replaced, bounds.
 use Prim.Native.Nat.{ℕ, zero, suc, _+_, _*_, _-_, _/_, _%_, _≤_, _<_}
-use mathlib.Core.Path.{_≡_, refl, sym, _∙_}
+use mathlib.Core.Path.{_≡_, refl, sym, ap, _∙_}
 use mathlib.Core.List.{List, [], _∷_, _++_}
 use native.Mathlib.Numerals.{add-one}
 use native.Mathlib.Omega.{arith}
-use lib.ListN.{length, getD, set, take, drop, drop-of-length-le}
-use lib.Seq.{drop-cons}
+use lib.ListN.{length, getD, set, take, drop, drop-of-length-le, take-append-drop}
+use lib.Seq.{drop-cons, drop-drop}
 use Rattle.octets.specs.Sums.{sumOf, lowsOf}
 
 pub sum-step : (l : List ℕ) (i : ℕ) → i < length l → sumOf (drop i l) ≡ getD l i 0 + sumOf (drop (i + 1) l)
@@ -20,6 +20,10 @@ pub sum-append : (a b : List ℕ) → sumOf (a ++ b) ≡ sumOf a + sumOf b
 unfolding sumOf
 sum-append [] b = omega arith
 sum-append (x ∷ a) b = omega (arith, sum-append a b)
+
+-- a part, and what is left after it
+pub sum-parts : (l : List ℕ) (i n : ℕ) → sumOf (take n (drop i l)) + sumOf (drop (i + n) l) ≡ sumOf (drop i l)
+sum-parts l i n = rw (← drop-drop) (sym (sum-append (take n (drop i l)) (drop n (drop i l))) ∙ ap sumOf (take-append-drop n (drop i l)))
 
 -- a store adds the new byte and takes the old one off
 pub sum-set : (l : List ℕ) (i v : ℕ) → i < length l → sumOf (set l i v) + getD l i 0 ≡ sumOf l + v

@@ -14,11 +14,11 @@ use Rattle.octets.proofs.ChoiceLaws.{both-true}
 use Rattle.octets.specs.Twos.{twosOf, twosWord}
 
 -- a word below the sign bit is itself; any other, as far below -1 as it lies below FFFF hex
-twos-low : (w : ℕ) → w < 0x8000 → twosOf w ≡ pos w
+pub twos-low : (w : ℕ) → w < 0x8000 → twosOf w ≡ pos w
 unfolding twosOf
 twos-low w h = rw (lt-ltb w 0x8000 h)
 
-twos-high : (w : ℕ) → 0x8000 ≤ w → w < 0x10000 → twosOf w ≡ negsuc (0xFFFF - w)
+pub twos-high : (w : ℕ) → 0x8000 ≤ w → w < 0x10000 → twosOf w ≡ negsuc (0xFFFF - w)
 unfolding twosOf
 twos-high w h k = rw (le-ltb w 0x8000 h, lt-ltb w 0x10000 k) (ap negsuc (omega arith))
 

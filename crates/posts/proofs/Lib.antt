@@ -4,3 +4,4 @@ pub mod Voids
 pub mod Pairs
 pub mod RoundTrip
 pub mod Readings
+pub mod PartLaws

@@ -1,3 +1,4 @@
--- What post words and heights mean, and which of them a cell may hold.
+-- What post words and heights mean, which of them a cell may hold, and what functions ask.
 pub mod Words
 pub mod Heights
+pub mod Asked

@@ -1,0 +1,35 @@
+// A column measured part by part, in one pass: the sum that its checksum must be, and whether each of its words is allowed.
+ghost use mathlib.Core.Path.{_≡_};
+ghost use lib.ListN.{take};
+ghost use Rattle.octets.specs.Sums.{sumOf};
+ghost use Rattle.posts.specs.Words.{wordsAllowed};
+ghost use Rattle.columns.specs.Asked.{Full};
+ghost use Rattle.columns.specs.Column.{sumAt};
+use crate::places::word_at;
+use octets::choices::both;
+use octets::sums::sum;
+use posts::parts::MOST;
+use posts::parts::Part;
+use posts::parts::measure_part;
+
+// The whole parts, then the rest of the words.
+pub fn measure(column: &[u8], posts: usize, voids: bool) -> Part
+    requires { ⌜ Full (now column) posts ⌝ }
+    ensures { λ r. ⌜ r .sum ≡ sumOf (take (sumAt posts) (now (column .entry))) ⌝ }
+    ensures { λ r. ⌜ r .allowed ≡ wordsAllowed voids (now (column .entry)) 8 posts ⌝ }
+{
+    let mut total = sum(&column[..8]);
+    let mut allowed = true;
+    let mut i = 0;
+    while MOST <= posts - i {
+        let part = measure_part(column, word_at(i), MOST, voids);
+        total += part.sum;
+        allowed = both(allowed, part.allowed);
+        i += MOST;
+    }
+    let rest = measure_part(column, word_at(i), posts - i, voids);
+    Part {
+        sum: total + rest.sum,
+        allowed: both(allowed, rest.allowed),
+    }
+}

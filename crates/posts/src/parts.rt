@@ -1,0 +1,73 @@
+// Parts of a column: the sum of their bytes, and whether a cell may hold all of their words, in one pass that no word ends.
+ghost use mathlib.Core.Path.{_≡_};
+ghost use Prim.Native.Nat.{_*_, _≤_};
+ghost use lib.IntN.{pos};
+ghost use lib.ListN.{take, drop};
+ghost use lib.Signed.{leZ};
+ghost use Rattle.octets.specs.Choice.{pick, both};
+ghost use Rattle.octets.specs.Sums.{sumOf};
+ghost use Rattle.posts.specs.Asked.{FewWords};
+ghost use Rattle.posts.specs.Words.{wordsAllowed};
+use octets::choices::both;
+use octets::extremes::larger;
+use octets::numbers::word;
+use octets::sums::bytes_of;
+use octets::twos::number_of;
+use std::num::wrapping_add_u16;
+
+// How many words a part has at most: 16 bits hold the sum of their high bytes, and that of their low bytes.
+pub const MOST: usize = 256;
+
+// What a part of a column sums up to, and whether each of its words is allowed.
+pub struct Part {
+    pub sum: u32,
+    pub allowed: bool,
+}
+
+// What is added to a word, in 16 bits, so that depths come to lie above 0 and in their order, and what has no sign bit below: void, where it is
+// allowed, comes to lie at the lowest number of all.
+fn turn_for(voids: bool) -> u16
+    ensures { λ r. ⌜ r ≡ pick voids 0x8001 0x8000 ⌝ }
+{
+    if voids { 0x8001 } else { 0x8000 }
+}
+
+// The highest that an allowed word is when it is turned.
+fn most_for(voids: bool) -> i16
+    ensures { λ r. ⌜ r ≡ pos (pick voids 12001 12000) ⌝ }
+{
+    if voids { 12001 } else { 12000 }
+}
+
+// The highest of the words and of the turned ones, as two's complement numbers, tell whether each word is allowed.
+fn are_allowed(highest: i16, deepest: i16, voids: bool) -> bool
+    ensures { λ r. ⌜ r ≡ both (leZ highest (pos 9000)) (leZ deepest (pos (pick voids 12001 12000))) ⌝ }
+{
+    both(highest <= 9000, deepest <= most_for(voids))
+}
+
+// At most so many words from `at` on; a call with this very number is a loop of known length.
+pub fn measure_part(s: &[u8], at: usize, n: usize, voids: bool) -> Part
+    requires { ⌜ FewWords (now s) at n ⌝ }
+    ensures { λ r. ⌜ (r .sum ≡ sumOf (take (2 * n) (drop at (now (s .entry))))) × (r .sum ≤ 510 * n) ⌝ }
+    ensures { λ r. ⌜ r .allowed ≡ wordsAllowed voids (now (s .entry)) at n ⌝ }
+{
+    let turn = turn_for(voids);
+    let mut highest: i16 = -32768;
+    let mut deepest: i16 = -32768;
+    let mut words: u16 = 0;
+    let mut highs: u16 = 0;
+    let mut i = 0;
+    while i < n {
+        let w = word(s, at + 2 * i);
+        highest = larger(highest, number_of(w));
+        deepest = larger(deepest, number_of(wrapping_add_u16(w, turn)));
+        words = wrapping_add_u16(words, w);
+        highs += w / 256;
+        i += 1;
+    }
+    Part {
+        sum: bytes_of(words, highs),
+        allowed: are_allowed(highest, deepest, voids),
+    }
+}
