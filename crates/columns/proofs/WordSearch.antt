@@ -3,8 +3,9 @@ use Prim.Native.Nat.{ℕ, _+_, _-_, _≤_, _<_}
 use mathlib.Core.Path.{_≡_}
 use mathlib.Core.List.{List}
 use mathlib.Core.Bool.{Bool, true, false}
-use Rattle.octets.proofs.SearchLaws.{search-on, search-stop, search-end}
-use Rattle.posts.specs.Words.{wordAllowed}
+use Rattle.octets.proofs.SearchLaws.{search-on, search-stop, search-end, none-found}
+use Rattle.posts.specs.Words.{wordAllowed, wordsAllowed}
+use Rattle.posts.proofs.PartLaws.{word-of-all}
 use Rattle.answers.specs.declared.Refusal.the-variants.{Word}
 use Rattle.columns.specs.Column.{wordAt, wordIn}
 use Rattle.columns.specs.Judged.{wordsFrom}
@@ -27,3 +28,7 @@ module _ (s : List ℕ) (voids : Bool) (base i posts : ℕ) where
 
   pub words-end : posts ≤ i → wordsFrom s voids base i (posts - i) ≡ Good
   words-end = search-end test bad Good i posts
+
+-- where all words are allowed, none is found that is not
+pub none-bad : (s : List ℕ) (voids : Bool) (base posts : ℕ) → wordsAllowed voids s 8 posts ≡ true → wordsFrom s voids base 0 posts ≡ Good
+none-bad s voids base posts e = none-found (test s voids base 0 posts) (bad s voids base 0 posts) Good posts (λ j h. word-of-all voids s 8 posts j e h)

@@ -7,18 +7,18 @@ ghost use Rattle.columns.specs.Asked.{Full};
 ghost use Rattle.columns.specs.Column.{sumAt};
 use crate::places::word_at;
 use octets::choices::both;
-use octets::sums::sum;
 use posts::parts::MOST;
 use posts::parts::Part;
 use posts::parts::measure_part;
 
-// The whole parts, then the rest of the words.
+// The preamble, as four words of which the sum alone counts, then the whole parts and the rest of the words.
 pub fn measure(column: &[u8], posts: usize, voids: bool) -> Part
     requires { ⌜ Full (now column) posts ⌝ }
     ensures { λ r. ⌜ r .sum ≡ sumOf (take (sumAt posts) (now (column .entry))) ⌝ }
     ensures { λ r. ⌜ r .allowed ≡ wordsAllowed voids (now (column .entry)) 8 posts ⌝ }
 {
-    let mut total = sum(&column[..8]);
+    let preamble = measure_part(column, 0, 4, voids);
+    let mut total = preamble.sum;
     let mut allowed = true;
     let mut i = 0;
     while MOST <= posts - i {

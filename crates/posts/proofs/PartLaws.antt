@@ -137,3 +137,13 @@ word-of-all voids s at (suc n) zero e h =
 word-of-all voids s at (suc n) (suc i) e h =
     let on : at + 2 * suc i ≡ at + 2 + 2 * i = omega arith in
     rw on (word-of-all voids s (at + 2) n i (both-true (wordAllowed voids (numberAt s at 2)) (wordsAllowed voids s (at + 2) n) e .1) (omega arith))
+
+-- a part on: what was found of the words before it, and of it, and what is left
+pub part-on : (voids : Bool) (s : List ℕ) (at at′ m k l : ℕ) (found part all : Bool) → l ≡ m + k → at′ ≡ at + 2 * m
+    → part ≡ wordsAllowed voids s at m → both found (wordsAllowed voids s at l) ≡ all → both (both found part) (wordsAllowed voids s at′ k) ≡ all
+part-on voids s at at′ m k l found part all e on here whole =
+    rw (on, here)
+    (sym (both-both found (wordsAllowed voids s at m) (wordsAllowed voids s (at + 2 * m) k))
+    ∙ ap (λ (z : Bool). both found z) (sym (words-parts voids s at m k))
+    ∙ ap (λ (z : ℕ). both found (wordsAllowed voids s at z)) (sym e)
+    ∙ whole)

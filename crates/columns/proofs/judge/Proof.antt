@@ -1,6 +1,6 @@
 -- `judge`: what is left of the words answers as the whole column.
 use Prim.Native.Nat.{_-_, _≤_}
-use Rattle.columns.proofs.WordSearch.{word-on, word-stop, words-end}
+use Rattle.columns.proofs.WordSearch.{word-on, word-stop, words-end, none-bad}
 use Rattle.columns.proofs.judge.Statement.{statement}
 use Rattle.columns.proofs.judge.Tie as tie
 use Rattle.posts.specs.Words.{wordAllowed}
@@ -18,6 +18,9 @@ Inv-loop column number posts voids base i₀ i = (i ≤ posts) × (wordsFrom col
 abbrev μ-loop : tie.MeasureT-loop
 μ-loop column number posts voids base i₀ i = posts - i
 
+measure-requires : tie.Need-measure-requires Inv-loop μ-loop
+measure-requires c κs = search needs
+
 judge-head-requires : tie.Need-judge-head-requires Inv-loop μ-loop
 judge-head-requires c κs = search needs
 
@@ -31,9 +34,17 @@ returns c = rw (← c .before .before .before .judge-head .ensures, c .before .h
 enum-told : tie.Need-enum-told Inv-loop μ-loop
 enum-told c = search needs
 
+returns-2 : tie.Need-returns-2 Inv-loop μ-loop
+unfolding judgedColumn
+returns-2 c =
+    let h = c .before .before .before in
+    let m = h .before in
+    let a = m .before .before .args in
+    rw (← h .judge-head .ensures, c .before .enum-told .given .1) (sym (none-bad (a .column .now) (a .voids) (a .base) (a .posts) (sym (m .measure .ensures .1) ∙ c .if1 .taken)))
+
 loop-holds : tie.Need-loop-holds Inv-loop μ-loop
 unfolding judgedColumn
-loop-holds c = (omega arith, rw (sub-zero, ← c .before .before .judge-head .ensures, c .enum-told .given .1))
+loop-holds c = (omega arith, rw (sub-zero, ← c .before .before .before .judge-head .ensures, c .before .enum-told .given .1))
 
 word-at-requires : tie.Need-word-at-requires Inv-loop μ-loop
 word-at-requires c κs = search needs
@@ -41,7 +52,7 @@ word-at-requires c κs = search needs
 -- whether the word is allowed is what was found
 found : (c : tie.After-is-allowed Inv-loop μ-loop) →
     let l = c .before .before .before .before in
-    let a = l .before .before .before .before .before .args in
+    let a = l .before .before .before .before .before .before .before .args in
     wordAllowed (a .voids) (wordIn (a .column .now) (l .loop .i)) ≡ c .is-allowed .result
 found c = sym (rw (c .before .be16 .ensures, c .before .before .word-at .ensures) at (c .is-allowed .ensures))
 
@@ -51,16 +62,16 @@ be16-requires c κs = search needs
 is-allowed-requires : tie.Need-is-allowed-requires Inv-loop μ-loop
 is-allowed-requires c κs = search needs
 
-add-t13 : tie.Need-add-t13 Inv-loop μ-loop
-add-t13 c = search needs
+add-t15 : tie.Need-add-t15 Inv-loop μ-loop
+add-t15 c = search needs
 
-returns-2 : tie.Need-returns-2 Inv-loop μ-loop
-returns-2 c =
+returns-3 : tie.Need-returns-3 Inv-loop μ-loop
+returns-3 c =
     let w = c .before .before .before in
     let l = w .before .before in
-    let a = l .before .before .before .before .before .args in
+    let a = l .before .before .before .before .before .before .before .args in
     rw (w .word-at .ensures)
-    (sym (word-stop (a .column .now) (a .voids) (a .base) (l .loop .i) (a .posts) (w .before .loop-test .taken) (found (c .before) ∙ not-true _ (c .if1 .taken)))
+    (sym (word-stop (a .column .now) (a .voids) (a .base) (l .loop .i) (a .posts) (w .before .loop-test .taken) (found (c .before) ∙ not-true _ (c .if2 .taken)))
     ∙ l .loop .inv .1)
 
 add-i : tie.Need-add-i Inv-loop μ-loop
@@ -72,16 +83,16 @@ loop-less c = search needs
 loop-again : tie.Need-loop-again Inv-loop μ-loop
 loop-again c =
     let l = c .before .before .before .before .before in
-    let a = l .before .before .before .before .before .args in (
+    let a = l .before .before .before .before .before .before .before .args in (
       omega arith,
-      sym (word-on (a .column .now) (a .voids) (a .base) (l .loop .i) (a .posts) (c .before .before .before .before .loop-test .taken) (found (c .before) ∙ not-false _ (c .if1 .left)))
+      sym (word-on (a .column .now) (a .voids) (a .base) (l .loop .i) (a .posts) (c .before .before .before .before .loop-test .taken) (found (c .before) ∙ not-false _ (c .if2 .left)))
           ∙ l .loop .inv .1,
     )
 
-returns-3 : tie.Need-returns-3 Inv-loop μ-loop
-returns-3 c =
+returns-4 : tie.Need-returns-4 Inv-loop μ-loop
+returns-4 c =
     let l = c .before in
-    let a = l .before .before .before .before .before .args in
+    let a = l .before .before .before .before .before .before .before .args in
     sym (words-end (a .column .now) (a .voids) (a .base) (l .loop .i) (a .posts) (c .loop-test .left)) ∙ l .loop .inv .1
 
 pub judge-spec : {M : Type 1} → statement M
@@ -90,17 +101,19 @@ judge-spec =
     (tie.spec
     Inv-loop
     μ-loop
+    measure-requires
     judge-head-requires
     enum-known-head
     returns
     enum-told
+    returns-2
     loop-holds
     word-at-requires
     be16-requires
     is-allowed-requires
-    add-t13
-    returns-2
+    add-t15
+    returns-3
     add-i
     loop-less
     loop-again
-    returns-3)
+    returns-4)
