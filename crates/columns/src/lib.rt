@@ -8,6 +8,7 @@ pub mod places;
 pub mod write;
 
 use crate::measure::measure;
+use crate::measure::search_from;
 use crate::places::sum_at;
 use crate::places::word_at;
 use answers::Refusal;
@@ -56,10 +57,7 @@ pub fn judge(column: &[u8], number: usize, posts: usize, voids: bool, base: usiz
     if let JudgedColumn::Refused(refusal) = head {
         return JudgedColumn::Refused(refusal);
     }
-    if measured.allowed {
-        return JudgedColumn::Good;
-    }
-    let mut i = 0;
+    let mut i = search_from(measured, posts);
     while i < posts {
         let at = word_at(i);
         if !is_allowed(be16(column, at), voids) {

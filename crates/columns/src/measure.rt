@@ -1,6 +1,7 @@
 // A column measured part by part, in one pass: the sum that its checksum must be, and whether each of its words is allowed.
 ghost use mathlib.Core.Path.{_≡_};
 ghost use lib.ListN.{take};
+ghost use Rattle.octets.specs.Choice.{pick};
 ghost use Rattle.octets.specs.Sums.{sumOf};
 ghost use Rattle.posts.specs.Words.{wordsAllowed};
 ghost use Rattle.columns.specs.Asked.{Full};
@@ -32,4 +33,11 @@ pub fn measure(column: &[u8], posts: usize, voids: bool) -> Part
         sum: total + rest.sum,
         allowed: both(allowed, rest.allowed),
     }
+}
+
+// Where a search for a word that is not allowed starts: after the last word, where there is none such.
+pub fn search_from(measured: Part, posts: usize) -> usize
+    ensures { λ r. ⌜ r ≡ pick (measured .allowed) posts 0 ⌝ }
+{
+    if measured.allowed { posts } else { 0 }
 }

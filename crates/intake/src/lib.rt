@@ -8,6 +8,8 @@ use answers::Refusal;
 use answers::Verdict;
 use columns::JudgedColumn;
 use columns::judge_head;
+use columns::measure::measure;
+use columns::measure::search_from;
 use columns::places::word_at;
 use headers::judge::frame_of;
 use layout::Frame;
@@ -57,11 +59,12 @@ fn take_columns(cell: &[u8], frame: Frame) -> Verdict
         }
         let next = base + size;
         let column = &cell[base..next];
-        let head = judge_head(column, k, posts, base);
+        let measured = measure(column, posts, voids);
+        let head = judge_head(column, k, posts, base, measured.sum);
         if let JudgedColumn::Refused(refusal) = head {
             break 'columns Verdict::Refused(refusal);
         }
-        let mut i = 0;
+        let mut i = search_from(measured, posts);
         while i < posts {
             let at = word_at(i);
             if !is_allowed(be16(column, at), voids) {

@@ -1,6 +1,6 @@
 -- `judge`: what is left of the words answers as the whole column.
 use Prim.Native.Nat.{_-_, _≤_}
-use Rattle.columns.proofs.WordSearch.{word-on, word-stop, words-end, none-bad}
+use Rattle.columns.proofs.WordSearch.{word-on, word-stop, words-end, searched-from, starts-within}
 use Rattle.columns.proofs.judge.Statement.{statement}
 use Rattle.columns.proofs.judge.Tie as tie
 use Rattle.posts.specs.Words.{wordAllowed}
@@ -9,7 +9,6 @@ use Rattle.columns.specs.Judged.{wordsFrom, judgedColumn}
 use borrow.Author.Needs.{needs}
 use borrow.Author.Tests.{not-true, not-false}
 use mathlib.Core.Path.{_≡_, sym, _∙_}
-use native.Mathlib.Nat.{sub-zero}
 use native.Mathlib.Omega.{arith}
 
 abbrev Inv-loop : tie.InvT-loop
@@ -34,17 +33,20 @@ returns c = rw (← c .before .before .before .judge-head .ensures, c .before .h
 enum-told : tie.Need-enum-told Inv-loop μ-loop
 enum-told c = search needs
 
-returns-2 : tie.Need-returns-2 Inv-loop μ-loop
-unfolding judgedColumn
-returns-2 c =
-    let h = c .before .before .before in
-    let m = h .before in
-    let a = m .before .before .args in
-    rw (← h .judge-head .ensures, c .before .enum-told .given .1) (sym (none-bad (a .column .now) (a .voids) (a .base) (a .posts) (sym (m .measure .ensures .1) ∙ c .if1 .taken)))
+search-from-requires : tie.Need-search-from-requires Inv-loop μ-loop
+search-from-requires c κs = search needs
 
 loop-holds : tie.Need-loop-holds Inv-loop μ-loop
 unfolding judgedColumn
-loop-holds c = (omega arith, rw (sub-zero, ← c .before .before .before .judge-head .ensures, c .before .enum-told .given .1))
+loop-holds c =
+    let h = c .before .before .before in
+    let m = h .before in
+    let a = m .before .before .args in
+    rw (c .search-from .ensures) (
+      starts-within (a .posts) (m .measure .result .allowed),
+      searched-from (a .column .now) (a .voids) (a .base) (a .posts) (m .measure .result .allowed) (m .measure .ensures .1)
+          ∙ rw (← h .judge-head .ensures, c .before .enum-told .given .1),
+    )
 
 word-at-requires : tie.Need-word-at-requires Inv-loop μ-loop
 word-at-requires c κs = search needs
@@ -62,16 +64,16 @@ be16-requires c κs = search needs
 is-allowed-requires : tie.Need-is-allowed-requires Inv-loop μ-loop
 is-allowed-requires c κs = search needs
 
-add-t15 : tie.Need-add-t15 Inv-loop μ-loop
-add-t15 c = search needs
+add-t14 : tie.Need-add-t14 Inv-loop μ-loop
+add-t14 c = search needs
 
-returns-3 : tie.Need-returns-3 Inv-loop μ-loop
-returns-3 c =
+returns-2 : tie.Need-returns-2 Inv-loop μ-loop
+returns-2 c =
     let w = c .before .before .before in
     let l = w .before .before in
     let a = l .before .before .before .before .before .before .before .args in
     rw (w .word-at .ensures)
-    (sym (word-stop (a .column .now) (a .voids) (a .base) (l .loop .i) (a .posts) (w .before .loop-test .taken) (found (c .before) ∙ not-true _ (c .if2 .taken)))
+    (sym (word-stop (a .column .now) (a .voids) (a .base) (l .loop .i) (a .posts) (w .before .loop-test .taken) (found (c .before) ∙ not-true _ (c .if1 .taken)))
     ∙ l .loop .inv .1)
 
 add-i : tie.Need-add-i Inv-loop μ-loop
@@ -85,12 +87,12 @@ loop-again c =
     let l = c .before .before .before .before .before in
     let a = l .before .before .before .before .before .before .before .args in (
       omega arith,
-      sym (word-on (a .column .now) (a .voids) (a .base) (l .loop .i) (a .posts) (c .before .before .before .before .loop-test .taken) (found (c .before) ∙ not-false _ (c .if2 .left)))
+      sym (word-on (a .column .now) (a .voids) (a .base) (l .loop .i) (a .posts) (c .before .before .before .before .loop-test .taken) (found (c .before) ∙ not-false _ (c .if1 .left)))
           ∙ l .loop .inv .1,
     )
 
-returns-4 : tie.Need-returns-4 Inv-loop μ-loop
-returns-4 c =
+returns-3 : tie.Need-returns-3 Inv-loop μ-loop
+returns-3 c =
     let l = c .before in
     let a = l .before .before .before .before .before .before .before .args in
     sym (words-end (a .column .now) (a .voids) (a .base) (l .loop .i) (a .posts) (c .loop-test .left)) ∙ l .loop .inv .1
@@ -106,14 +108,14 @@ judge-spec =
     enum-known-head
     returns
     enum-told
-    returns-2
+    search-from-requires
     loop-holds
     word-at-requires
     be16-requires
     is-allowed-requires
-    add-t15
-    returns-3
+    add-t14
+    returns-2
     add-i
     loop-less
     loop-again
-    returns-4)
+    returns-3)

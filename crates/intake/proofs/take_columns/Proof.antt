@@ -1,6 +1,6 @@
 -- `take_columns`: what is left of the columns, and within one of its words, answers as the whole.
 use Prim.Native.Nat.{ℕ, _+_, _-_, _≤_}
-use Rattle.columns.proofs.WordSearch.{word-on, word-stop, words-end}
+use Rattle.columns.proofs.WordSearch.{word-on, word-stop, words-end, searched-from, starts-within}
 use Rattle.columns.specs.Column.{wordIn}
 use Rattle.columns.specs.Judged.{andThen, wordsFrom}
 use Rattle.columns.specs.declared.JudgedColumn.{JudgedColumn}
@@ -68,12 +68,15 @@ part-column-start c = search needs
 part-column-end : tie.Need-part-column-end Inv-loop μ-loop Inv-columns μ-columns
 part-column-end c = search needs
 
+measure-requires : tie.Need-measure-requires Inv-loop μ-loop Inv-columns μ-columns
+measure-requires c κs = search needs
+
 judge-head-requires : tie.Need-judge-head-requires Inv-loop μ-loop Inv-columns μ-columns
 judge-head-requires c κs = search needs
 
 -- where preamble and checksum were judged x, the turn's answer goes by x
 turned : (c : tie.After-judge-head Inv-loop μ-loop Inv-columns μ-columns) (x : JudgedColumn) → c .judge-head .result ≡ x →
-    let z = c .before .before .before .before in
+    let z = c .before .before .before .before .before in
     let a = z .before .before .before .before .args in
     let f = a .frame in
     let part = take (z .columns .base + f .grid .bytes .column - z .columns .base) (drop (z .columns .base) (a .cell .now)) in
@@ -81,11 +84,11 @@ turned : (c : tie.After-judge-head Inv-loop μ-loop Inv-columns μ-columns) (x :
     (columnsFrom (a .cell .now) f (z .columns .k + 1) (f .grid .columns - (z .columns .k + 1)))
     ≡ columnsFrom (a .cell .now) f 0 (f .grid .columns)
 turned c x q =
-    let z = c .before .before .before .before in
+    let z = c .before .before .before .before .before in
     let a = z .before .before .before .before .args in
     let start = z .columns .inv .start in
     sym (turn-as (a .cell .now) (a .frame) (z .columns .k) (z .columns .base) start
-    (c .before .before .before .if1 .left) (omega arith) _ (part-is (a .cell .now) (a .frame .grid) (z .columns .k) (z .columns .base) start)
+    (c .before .before .before .before .if1 .left) (omega arith) _ (part-is (a .cell .now) (a .frame .grid) (z .columns .k) (z .columns .base) start)
     x (sym (c .judge-head .ensures) ∙ q))
     ∙ z .columns .inv .left
 
@@ -95,14 +98,23 @@ enum-known-head c = search needs
 enum-told : tie.Need-enum-told Inv-loop μ-loop Inv-columns μ-columns
 enum-told c = search needs
 
+search-from-requires : tie.Need-search-from-requires Inv-loop μ-loop Inv-columns μ-columns
+search-from-requires c κs = search needs
+
 loop-holds : tie.Need-loop-holds Inv-loop μ-loop Inv-columns μ-columns
 loop-holds c =
-    let z = c .before .before .before .before .before .before in
+    let h = c .before .before .before in
+    let m = h .before .measure in
+    let z = h .before .before .before .before .before in
     let a = z .before .before .before .before .args in
+    let posts = a .frame .grid .posts in
+    let part = take (z .columns .base + a .frame .grid .bytes .column - z .columns .base) (drop (z .columns .base) (a .cell .now)) in
     record {
-      due = omega arith;
+      due = rw (c .search-from .ensures) (starts-within posts (m .result .allowed));
       long = length-part (a .cell .now) (z .columns .base) (z .columns .base + a .frame .grid .bytes .column) (omega arith) (omega arith) ∙ add-sub-cancel-left _ _;
-      left = rw sub-zero (turned (c .before .before) _ (c .enum-told .given .1));
+      left =
+          rw (c .search-from .ensures, searched-from part (a .frame .voids) (z .columns .base) posts (m .result .allowed) (m .ensures .1))
+          (turned h _ (c .before .enum-told .given .1));
     }
 
 word-at-requires : tie.Need-word-at-requires Inv-loop μ-loop Inv-columns μ-columns
@@ -111,7 +123,7 @@ word-at-requires c κs = search needs
 -- whether the word is allowed is what was found
 found : (c : tie.After-is-allowed Inv-loop μ-loop Inv-columns μ-columns) →
     let l = c .before .before .before .before in
-    let z = l .before .before .before .before .before .before .before in
+    let z = l .before .before .before .before .before .before .before .before .before in
     let a = z .before .before .before .before .args in
     let part = take (z .columns .base + a .frame .grid .bytes .column - z .columns .base) (drop (z .columns .base) (a .cell .now)) in
     wordAllowed (a .frame .voids) (wordIn part (l .loop .i)) ≡ c .is-allowed .result
@@ -123,8 +135,8 @@ be16-requires c κs = search needs
 is-allowed-requires : tie.Need-is-allowed-requires Inv-loop μ-loop Inv-columns μ-columns
 is-allowed-requires c κs = search needs
 
-add-t29 : tie.Need-add-t29 Inv-loop μ-loop Inv-columns μ-columns
-add-t29 c = search needs
+add-t30 : tie.Need-add-t30 Inv-loop μ-loop Inv-columns μ-columns
+add-t30 c = search needs
 
 add-i : tie.Need-add-i Inv-loop μ-loop Inv-columns μ-columns
 add-i c = search needs
@@ -149,7 +161,7 @@ columns-less c = search needs
 
 columns-again : tie.Need-columns-again Inv-loop μ-loop Inv-columns μ-columns
 columns-again c =
-    let z = c .before .before .before .before .before .before .before .before in
+    let z = c .before .before .before .before .before .before .before .before .before .before in
     let a = z .before .before .before .before .args in
     let part = take (z .columns .base + a .frame .grid .bytes .column - z .columns .base) (drop (z .columns .base) (a .cell .now)) in
     record {
@@ -198,14 +210,16 @@ take-columns-spec =
     sub-column
     part-column-start
     part-column-end
+    measure-requires
     judge-head-requires
     enum-known-head
     enum-told
+    search-from-requires
     loop-holds
     word-at-requires
     be16-requires
     is-allowed-requires
-    add-t29
+    add-t30
     add-i
     loop-less
     loop-again
