@@ -1,6 +1,6 @@
 -- What every writer judges of what it is given, from whatever source, and of the output: 10, 11, then 12 (rules N10 to N12).
 use Prim.Native.Nat.{ℕ}
-use mathlib.Core.Bool.{Bool}
+use mathlib.Core.Bool.{Bool, true, false}
 use mathlib.Core.List.{List, _++_}
 use lib.ListN.{length, drop}
 use lib.Dec.{leb}
@@ -12,9 +12,17 @@ use Rattle.answers.specs.declared.Refusal.the-variants.{GridLength, Height, Roo
 use Rattle.answers.specs.declared.Outcome.{Outcome}
 use Rattle.answers.specs.declared.Outcome.the-variants.{Done, Refused}
 
--- N11: the first of n heights that may not be held; else the rest
+-- N11: the first of n heights, from height `from` on, that may not be held; else the rest
+abbrev pub heightsFromThen : Bool → Heights → ℕ → ℕ → Outcome → Outcome
+heightsFromThen voids g from n rest = firstBad (λ (i : ℕ). heightAllowed voids (nthHeight g i)) (λ (i : ℕ). Refused (Height i)) rest from n
+
+-- and from the first height on
 unfoldable pub heightsThen : Bool → Heights → ℕ → Outcome → Outcome
-heightsThen voids g n rest = firstBad (λ (i : ℕ). heightAllowed voids (nthHeight g i)) (λ (i : ℕ). Refused (Height i)) rest 0 n
+heightsThen voids g n rest = heightsFromThen voids g 0 n rest
+
+-- each of n heights, from height `from` on, may be held
+unfoldable pub heightsAllowed : Bool → Heights → ℕ → ℕ → Bool
+heightsAllowed voids g from n = firstBad (λ (i : ℕ). heightAllowed voids (nthHeight g i)) (λ (i : ℕ). false) true from n
 
 -- N12: room for so many bytes
 unfoldable pub roomFor : ℕ → ℕ → Outcome

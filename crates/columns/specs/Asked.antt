@@ -1,5 +1,5 @@
 -- What functions of this crate ask of their callers.
-use Prim.Native.Nat.{ℕ, _+_, _^_, _<_, _≤_}
+use Prim.Native.Nat.{ℕ, _+_, _*_, _^_, _<_, _≤_}
 use mathlib.Core.Path.{_≡_}
 use mathlib.Core.List.{List}
 use lib.ListN.{length, take}
@@ -31,9 +31,16 @@ pub record Reaches (g : Heights) (first posts : ℕ) : Type 0 where
   pub there : first + posts ≤ countOf g
   pub end : first + posts < 2 ^ 64
 
--- such heights, and room for their words after a preamble
+-- such heights, so few that 16 bits hold the sum of their words' high bytes, and room for their words from `at` on
+pub record PartFits (out : List ℕ) (at : ℕ) (g : Heights) (first n : ℕ) : Type 0 where
+  pub heights : Reaches g first n
+  pub few : n ≤ 256
+  pub room : at + 2 * n ≤ length out
+
+-- such heights, so few that 32 bits hold the sum of their words' bytes, and room for their words after a preamble
 pub record WordsFit (out : List ℕ) (g : Heights) (first posts : ℕ) : Type 0 where
   pub heights : Reaches g first posts
+  pub few : posts ≤ 3601
   pub room : sumAt posts ≤ length out
 
 -- room for a preamble, and a number that it can hold

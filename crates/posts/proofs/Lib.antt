@@ -5,3 +5,4 @@ pub mod Pairs
 pub mod RoundTrip
 pub mod Readings
 pub mod PartLaws
+pub mod SpanLaws

@@ -2,3 +2,4 @@
 pub mod Words
 pub mod Heights
 pub mod Asked
+pub mod Spans

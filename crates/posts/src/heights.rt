@@ -29,3 +29,14 @@ pub fn word_of(height: i64) -> u16
     let metres = height as u64;
     (metres % 0x8000) as u16
 }
+
+// The same for a height of 16 bits, with no wider number on the way.
+pub fn word_of_short(metres: i16) -> u16
+    ensures { λ r. ⌜ r ≡ wordOf metres ⌝ }
+{
+    if metres < 0 {
+        let below = (-1 - metres) as u16;
+        return 0x8000 + (below + 1) % 0x8000;
+    }
+    metres as u16
+}
