@@ -22,7 +22,7 @@ pub length-preamble : (k : ℕ) → length (preamble k) ≡ 8
 unfolding preamble
 length-preamble k = simp (length-append, length-bytes)
 
-preamble-bytes : (k : ℕ) → Bytes (preamble k)
+pub preamble-bytes : (k : ℕ) → Bytes (preamble k)
 unfolding preamble
 preamble-bytes k =
     let a : List ℕ = 170 ∷ [] in

@@ -5,4 +5,5 @@ pub mod Exactly
 pub mod Damage
 pub mod ColumnWords
 pub mod ColumnHeights
+pub mod WordParts
 pub mod WrittenColumn

@@ -1,34 +1,19 @@
--- A column as it is put: its words one by one, and the pastes that make it.
-use Prim.Native.Nat.{ℕ, suc, _+_, _<_, _≤_}
+-- A column as it is put: the pastes that make it, and the sum of its preamble.
+use Prim.Native.Nat.{ℕ, _+_, _≤_}
 use native.Mathlib.Omega.{arith}
-use native.Mathlib.Numerals.{add-one}
 use mathlib.Core.Path.{_≡_, sym, ap, _∙_}
-use mathlib.Core.List.{List, [], _∷_, _++_, append-nil}
+use mathlib.Core.List.{List, [], _∷_, _++_}
 use lib.ListN.{length, take, set, length-append}
 use lib.Seq.{take-at}
 use Rattle.octets.specs.Numbers.{bytesOf, bytesOfWords}
 use Rattle.octets.specs.Pastes.{pasted}
 use Rattle.octets.specs.Sums.{sumOf}
-use Rattle.octets.specs.Parts.{listed}
-use Rattle.octets.proofs.JoinedLaws.{length-listed, listed-last}
-use Rattle.octets.proofs.WordLaws.{length-words, words-append}
 use Rattle.octets.proofs.NumberLaws.{length-bytes}
 use Rattle.octets.proofs.PasteLaws.{store, paste-paste, paste-front, paste-all}
+use Rattle.octets.proofs.SumLaws.{sum-append, sum-bound}
 use Rattle.layout.specs.Levels.{columnBytes}
-use Rattle.columns.specs.Column.{preamble, sealed, columnOfWords, wordAt, sumAt}
-use Rattle.columns.proofs.ColumnWords.{length-preamble, length-body}
-
--- a turn of the loop that puts the words
-pub words-step : (out : List ℕ) (word : ℕ → ℕ) (i n : ℕ) → i < n → sumAt n ≤ length out
-    → pasted (pasted out 8 (bytesOfWords (listed word i))) (wordAt i) (bytesOf 2 (word i)) ≡ pasted out 8 (bytesOfWords (listed word (i + 1)))
-unfolding bytesOfWords
-words-step out word i n h room =
-    let ws = listed word i in
-    let at : 8 + length (bytesOfWords ws) ≡ wordAt i = omega (arith, length-words ws, length-listed word i) in
-    let more : bytesOfWords (listed word (suc i)) ≡ bytesOfWords ws ++ bytesOf 2 (word i) =
-    ap bytesOfWords (listed-last word i) ∙ words-append ws (word i ∷ []) ∙ ap (λ (l : List ℕ). bytesOfWords ws ++ l) (append-nil (bytesOf 2 (word i)))
-    in
-    rw (add-one i, more, ← at) (paste-paste out 8 (bytesOfWords ws) (bytesOf 2 (word i)) (omega (arith, length-bytes 2 (word i))))
+use Rattle.columns.specs.Column.{preamble, sealed, columnOfWords, sumAt}
+use Rattle.columns.proofs.ColumnWords.{length-preamble, preamble-bytes, length-body}
 
 -- the preamble's four parts, put one after the other
 pub preamble-put : (out : List ℕ) (k : ℕ) → 8 ≤ length out
@@ -47,6 +32,13 @@ preamble-put out k h =
     ∙ ap (λ (m : ℕ). pasted (pasted out 0 c) m (bytesOf 2 0)) (sym lc)
     ∙ paste-paste out 0 c (bytesOf 2 0) (omega (arith, lc))
 
+-- what is summed of it, and how much that is at most
+pub preamble-there : (out : List ℕ) (k : ℕ) → take 8 (pasted out 0 (preamble k)) ≡ preamble k
+preamble-there out k = ap (take 8) (paste-front out (preamble k)) ∙ take-at (preamble k) _ 8 (length-preamble k)
+
+pub preamble-most : (k : ℕ) → sumOf (preamble k) ≤ 2040
+preamble-most k = omega (arith, sum-bound (preamble k) (preamble-bytes k), length-preamble k)
+
 -- preamble, words and checksum, put one after the other over bytes of the column's length
 module _ (out : List ℕ) (k : ℕ) (ws : List ℕ) (n : ℕ) (counted : length ws ≡ n) (long : length out ≡ columnBytes n) where
   abbrev body : List ℕ
@@ -60,11 +52,7 @@ module _ (out : List ℕ) (k : ℕ) (ws : List ℕ) (n : ℕ) (counted : length 
       let e : 0 + length (preamble k) ≡ 8 = omega (arith, length-preamble k) in
       ap (λ (m : ℕ). pasted (pasted out 0 (preamble k)) m (bytesOfWords ws)) (sym e) ∙ paste-paste out 0 (preamble k) (bytesOfWords ws) (omega arith)
 
-  -- the bytes that are summed
-  summed : take (sumAt n) (pasted (pasted out 0 (preamble k)) 8 (bytesOfWords ws)) ≡ body
-  summed = ap (take (sumAt n)) (body-put ∙ paste-front out body) ∙ take-at body _ _ length-here
-
-  pub column-put : (v : ℕ) → v ≡ sumOf (take (sumAt n) (pasted (pasted out 0 (preamble k)) 8 (bytesOfWords ws)))
+  pub column-put : (v : ℕ) → v ≡ sumOf (preamble k) + sumOf (bytesOfWords ws)
       → pasted (pasted (pasted out 0 (preamble k)) 8 (bytesOfWords ws)) (sumAt n) (bytesOf 4 v) ≡ columnOfWords k ws
   unfolding columnOfWords sealed
   column-put v e =
@@ -74,4 +62,4 @@ module _ (out : List ℕ) (k : ℕ) (ws : List ℕ) (n : ℕ) (counted : length 
       ∙ ap (λ (x : ℕ). pasted (pasted out 0 body) x (bytesOf 4 v)) (sym m)
       ∙ paste-paste out 0 body (bytesOf 4 v) (omega (arith, length-here))
       ∙ paste-all out (body ++ bytesOf 4 v) all
-      ∙ ap (λ (x : ℕ). body ++ bytesOf 4 x) (e ∙ ap sumOf summed)
+      ∙ ap (λ (x : ℕ). body ++ bytesOf 4 x) (e ∙ sym (sum-append (preamble k) (bytesOfWords ws)))

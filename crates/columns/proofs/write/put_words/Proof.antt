@@ -1,59 +1,74 @@
--- `put_words`: what stands so far is a paste of the words of the first heights.
-use Prim.Native.Nat.{ℕ, _+_, _-_, _≤_}
-use Rattle.columns.proofs.WrittenColumn.{words-step}
+-- `put_words`: the words of the parts so far stand, and the sum of their bytes is known.
+use Prim.Native.Nat.{ℕ, _+_, _*_, _-_, _≤_}
+use native.Mathlib.Omega.{arith}
+use mathlib.Core.Path.{_≡_}
+use borrow.Author.Needs.{needs}
+use Rattle.sources.specs.Heights.{Heights, heightsFrom}
+use Rattle.columns.proofs.WordParts.{Summed, none-summed, part-more, sum-most}
 use Rattle.columns.proofs.write.put_words.Statement.{statement}
 use Rattle.columns.proofs.write.put_words.Tie as tie
-use Rattle.columns.specs.Column.{wordAt}
-use Rattle.octets.proofs.PasteLaws.{paste-none}
-use Rattle.octets.specs.Numbers.{bytesOf, bytesOfWords}
-use Rattle.octets.specs.Parts.{listed}
-use Rattle.octets.specs.Pastes.{pasted}
-use Rattle.posts.specs.Heights.{wordOf}
-use Rattle.sources.specs.Heights.{Heights, heightsFrom, nthHeight, heightWords}
-use borrow.Author.Needs.{needs}
-use lib.ListN.{length}
-use mathlib.Core.List.{List}
-use mathlib.Core.Path.{_≡_, refl, sym, ap, _∙_}
-use mir.Facts.{toZ-ofZ}
-use mir.Syntax.{w16, w64}
-use mir.Val.{SFits, toZ, ofZ}
-use native.Mathlib.Omega.{arith}
 
 abbrev Inv-loop : tie.InvT-loop
-Inv-loop out₀ source numbers bytes first posts i₀ out i =
-    (i ≤ posts) × ((length out ≡ length out₀) × (out ≡ pasted out₀ 8 (bytesOfWords (heightWords (heightsFrom source numbers bytes) first i))))
+Inv-loop out₀ source numbers bytes first posts sum₀ i₀ out sum i = (i ≤ posts) × Summed out₀ (heightsFrom source numbers bytes) first i out sum
 
 abbrev μ-loop : tie.MeasureT-loop
-μ-loop out₀ source numbers bytes first posts i₀ out i = posts - i
+μ-loop out₀ source numbers bytes first posts sum₀ i₀ out sum i = posts - i
 
--- the height that was read, as the machine has it in 16 bits and then in 64
-height-back : (c : tie.After-height-at Inv-loop μ-loop) → toZ w16 (ofZ w16 (c .height-at .result)) ≡ c .height-at .result
-height-back c = toZ-ofZ {w = w16} (record { sfits = c .height-at .ok })
+-- what was put before a part, and the part itself
+module _ (l : tie.At-loop Inv-loop μ-loop) where
+  abbrev start : tie.Start Inv-loop μ-loop
+  start = l .before .before .before
 
-height-fits : (c : tie.After-height-at Inv-loop μ-loop) → SFits w64 (c .height-at .result)
-height-fits c = record { sfits = omega (arith, c .height-at .ok) }
+  abbrev given : Heights
+  given = heightsFrom (start .args .source) (start .args .numbers .now) (start .args .bytes .now)
+
+  abbrev next : ℕ
+  next = start .args .first + l .loop .i
+
+  so-far : l .loop .sum ≤ 510 * l .loop .i
+  so-far = rw (l .loop .inv .1 .is) (sum-most given (start .args .first) (l .loop .i))
+
+part : (c : tie.After-put-part Inv-loop μ-loop) →
+    let l = c .before .before .before .before in
+    Summed (start l .args .out .now) (given l) (start l .args .first) (l .loop .i + 256) (c .put-part .last .0) (l .loop .sum + c .put-part .result)
+part c =
+    let l = c .before .before .before .before in
+    part-more (start l .args .out .now) (given l) (start l .args .first) (l .loop .i) 256 (l .loop .out) (l .loop .sum) (l .loop .inv .1)
+    (omega (arith, start l .pre .room)) (c .before .word-at .result) (c .before .word-at .ensures) (c .put-part .last .0) (c .put-part .kept .0)
+    (c .put-part .ensures .1) (c .put-part .result) (c .put-part .ensures .0)
+
+last : (c : tie.After-put-part2 Inv-loop μ-loop) →
+    let l = c .before .before .before .before in
+    Summed (start l .args .out .now) (given l) (start l .args .first) (start l .args .posts) (c .put-part2 .last .0) (l .loop .sum + c .put-part2 .result)
+last c =
+    let l = c .before .before .before .before in
+    let rest = start l .args .posts - l .loop .i in
+    let all : l .loop .i + rest ≡ start l .args .posts = omega arith in
+    rw all
+    at (part-more (start l .args .out .now) (given l) (start l .args .first) (l .loop .i) rest (l .loop .out) (l .loop .sum) (l .loop .inv .1)
+    (omega (arith, start l .pre .room)) (c .before .word-at2 .result) (c .before .word-at2 .ensures) (c .put-part2 .last .0) (c .put-part2 .kept .0)
+    (c .put-part2 .ensures .1) (c .put-part2 .result) (c .put-part2 .ensures .0))
 
 loop-holds : tie.Need-loop-holds Inv-loop μ-loop
-unfolding bytesOfWords listed
-loop-holds c = (omega arith, (refl, sym (paste-none _ 8)))
+loop-holds c = (omega arith, none-summed _ _ _)
 
-add-height-at : tie.Need-add-height-at Inv-loop μ-loop
-add-height-at c = search needs
-
-height-at-requires : tie.Need-height-at-requires Inv-loop μ-loop
-height-at-requires c κs = search needs
-
-cast-word-of : tie.Need-cast-word-of Inv-loop μ-loop
-cast-word-of c = rw (height-back c) (height-fits c)
-
-word-of-requires : tie.Need-word-of-requires Inv-loop μ-loop
-word-of-requires c κs = search needs
+sub-loop : tie.Need-sub-loop Inv-loop μ-loop
+sub-loop c = search needs
 
 word-at-requires : tie.Need-word-at-requires Inv-loop μ-loop
 word-at-requires c κs = search needs
 
-put16-requires : tie.Need-put16-requires Inv-loop μ-loop
-put16-requires c κs = search needs
+add-put-part : tie.Need-add-put-part Inv-loop μ-loop
+add-put-part c = search needs
+
+put-part-requires : tie.Need-put-part-requires Inv-loop μ-loop
+put-part-requires c κs = search needs
+
+add-sum : tie.Need-add-sum Inv-loop μ-loop
+add-sum c =
+    let p = c .before .before in
+    let l = p .before .before .before .before in
+    omega (arith, so-far l, p .put-part .ensures .0, sum-most (given l) (next l) 256)
 
 add-i : tie.Need-add-i Inv-loop μ-loop
 add-i c = search needs
@@ -62,35 +77,31 @@ loop-less : tie.Need-loop-less Inv-loop μ-loop
 loop-less c = search needs
 
 loop-again : tie.Need-loop-again Inv-loop μ-loop
-loop-again c =
+loop-again c = (omega arith, part (c .before .before))
+
+word-at-requires-2 : tie.Need-word-at-requires-2 Inv-loop μ-loop
+word-at-requires-2 c κs = search needs
+
+add-put-part-2 : tie.Need-add-put-part-2 Inv-loop μ-loop
+add-put-part-2 c = search needs
+
+sub-put-part : tie.Need-sub-put-part Inv-loop μ-loop
+sub-put-part c = search needs
+
+put-part-requires-2 : tie.Need-put-part-requires-2 Inv-loop μ-loop
+put-part-requires-2 c κs = search needs
+
+add-result : tie.Need-add-result Inv-loop μ-loop
+add-result c =
     let p = c .before .before in
-    let w = p .before .before .before in
-    let h = w .before in
-    let l = h .before .before in
-    let a = l .before .before .before .args in
-    let g = heightsFrom (a .source) (a .numbers .now) (a .bytes .now) in
-    let word : ℕ → ℕ = λ i. wordOf (nthHeight g (a .first + i)) in
-    let put : w .word-of .result ≡ word (l .loop .i) = rw (height-back h, toZ-ofZ (height-fits h), h .height-at .ensures) at (w .word-of .ensures) in (
-      omega arith,
-      (
-        p .put16 .kept .0 ∙ l .loop .inv .1 .0,
-        rw (p .before .word-at .ensures) at (p .put16 .ensures)
-            ∙ ap (λ (out : List ℕ). pasted out (wordAt (l .loop .i)) (bytesOf 2 (w .word-of .result))) (l .loop .inv .1 .1)
-            ∙ ap (λ (v : ℕ). pasted (pasted (a .out .now) 8 (bytesOfWords (listed word (l .loop .i)))) (wordAt (l .loop .i)) (bytesOf 2 v)) put
-            ∙ words-step (a .out .now) word (l .loop .i) (a .posts) (omega arith) (l .before .before .before .pre .room),
-      ),
-    )
+    let l = p .before .before .before .before in
+    omega (arith, so-far l, p .put-part2 .ensures .0, sum-most (given l) (next l) (start l .args .posts - l .loop .i))
 
 same-length : tie.Need-same-length Inv-loop μ-loop
-same-length c = c .before .loop .inv .1 .0
+same-length c = last (c .before .before) .long
 
 returns : tie.Need-returns Inv-loop μ-loop
-returns c =
-    let l = c .before in
-    let a = l .before .before .before .args in
-    let all : l .loop .i ≡ a .posts = omega arith in
-    l .loop .inv .1 .1
-    ∙ ap (λ (n : ℕ). pasted (a .out .now) 8 (bytesOfWords (heightWords (heightsFrom (a .source) (a .numbers .now) (a .bytes .now)) (a .first) n))) all
+returns c = (last (c .before .before) .is, last (c .before .before) .put)
 
 pub put-words-spec : {M : Type 1} → statement M
 put-words-spec =
@@ -99,14 +110,18 @@ put-words-spec =
     Inv-loop
     μ-loop
     loop-holds
-    add-height-at
-    height-at-requires
-    cast-word-of
-    word-of-requires
+    sub-loop
     word-at-requires
-    put16-requires
+    add-put-part
+    put-part-requires
+    add-sum
     add-i
     loop-less
     loop-again
+    word-at-requires-2
+    add-put-part-2
+    sub-put-part
+    put-part-requires-2
+    add-result
     same-length
     returns)
