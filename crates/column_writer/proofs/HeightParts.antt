@@ -1,7 +1,7 @@
 -- Heights judged in parts: a part of which each height may be held is passed over, and how a part is judged, height by height.
 use Prim.Native.Nat.{ℕ, zero, suc, _+_, _-_, _<_, _≤_}
 use native.Mathlib.Omega.{arith}
-use mathlib.Core.Path.{_≡_, refl, ap, _∙_}
+use mathlib.Core.Path.{_≡_, refl, sym, ap, _∙_}
 use mathlib.Core.Bool.{Bool, true, false}
 use lib.IntN.{ℤ}
 use lib.Signed.{leZ}
@@ -13,7 +13,9 @@ use Rattle.posts.specs.Heights.{heightAllowed}
 use Rattle.posts.specs.Spans.{countedAs, spanInRange}
 use Rattle.posts.proofs.SpanLaws.{span-more, counted-held}
 use Rattle.sources.specs.Heights.{Heights, nthHeight}
+use Rattle.answers.specs.declared.Refusal.the-variants.{Height}
 use Rattle.answers.specs.declared.Outcome.{Outcome}
+use Rattle.answers.specs.declared.Outcome.the-variants.{Refused}
 use Rattle.column_writer.specs.Judged.{heightsAllowed, heightsFromThen}
 
 pick-both : (a b : Bool) → pick a b false ≡ both a b
@@ -28,7 +30,14 @@ both-last : (a : Bool) → both a true ≡ a
 both-last true = refl
 both-last false = refl
 
+-- the answer where a height may not be held
+abbrev pub refusal : ℕ → Outcome
+refusal i = Refused (Height i)
+
 module _ (voids : Bool) (g : Heights) where
+  abbrev pub test : ℕ → Bool
+  test i = heightAllowed voids (nthHeight g i)
+
   -- of n heights from `from` on, i of which were judged: the next one and the rest
   allowed-next : (from i n : ℕ) → i < n
       → heightsAllowed voids g (from + i) (n - i) ≡ both (heightAllowed voids (nthHeight g (from + i))) (heightsAllowed voids g (from + (i + 1)) (n - (i + 1)))
@@ -60,4 +69,13 @@ module _ (voids : Bool) (g : Heights) where
       → heightsFromThen voids g i (n - i) rest ≡ heightsFromThen voids g (i + m) (n - (i + m)) rest
   unfolding heightsAllowed firstBad
   part-passed i zero n rest h e = let same : i + 0 ≡ i = omega arith in rw same
-  part-passed i (suc m) n rest h e = ?
+  part-passed i (suc m) n rest h e =
+      let t = both-true (test i) (heightsAllowed voids g (i + 1) m) (sym (pick-both (test i) (heightsAllowed voids g (i + 1) m)) ∙ e) in
+      let on : i + 1 + m ≡ i + suc m = omega arith in
+      search-on test refusal rest i n (omega arith) (t .0)
+      ∙ part-passed (i + 1) m n rest (omega arith) (t .1)
+      ∙ ap (λ (k : ℕ). heightsFromThen voids g k (n - k) rest) on
+
+  -- and where all that are left may be held, the rest is answered
+  pub all-passed : (i n : ℕ) (rest : Outcome) → i ≤ n → heightsAllowed voids g i (n - i) ≡ true → heightsFromThen voids g i (n - i) rest ≡ rest
+  all-passed i n rest h e = part-passed i (n - i) n rest (omega arith) e ∙ search-end test refusal rest (i + (n - i)) n (omega arith)

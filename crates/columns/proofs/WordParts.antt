@@ -71,7 +71,6 @@ module _ (g : Heights) (first i m : ℕ) where
   pub part-sum : sumOf (bytesOfWords (heightWords g first (i + m))) ≡ sumOf (bytesOfWords (heightWords g first i)) + sumOf (bytesOfWords (heightWords g (first + i) m))
   part-sum = ap (λ (ws : List ℕ). sumOf (bytesOfWords ws)) heights-on ∙ sums-on (heightWords g first i) (heightWords g (first + i) m)
 
-
 -- the word of one height
 one-word : (g : Heights) (k : ℕ) → bytesOfWords (heightWords g k 1) ≡ bytesOf 2 (wordOf (nthHeight g k))
 unfolding bytesOfWords listed

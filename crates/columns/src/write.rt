@@ -63,7 +63,8 @@ fn put_words(
         sum += put_part(out, word_at(i), source, numbers, bytes, first + i, 256);
         i += 256;
     }
-    sum + put_part(out, word_at(i), source, numbers, bytes, first + i, posts - i)
+    let rest = posts - i;
+    sum + put_part(out, word_at(i), source, numbers, bytes, first + i, rest)
 }
 
 // Sentinel, block count, longitude count and latitude count.

@@ -15,7 +15,11 @@ fn passed_over(voids: bool) -> i16
 pub fn counted(height: i16, voids: bool) -> i16
     ensures { λ r. ⌜ r ≡ countedAs voids height ⌝ }
 {
-    if height == passed_over(voids) { 0 } else { height }
+    if height == passed_over(voids) {
+        0
+    } else {
+        height
+    }
 }
 
 // Whether all heights from the lowest to the highest are in range.

@@ -79,14 +79,14 @@ loop-less c = search needs
 loop-again : tie.Need-loop-again Inv-loop μ-loop
 loop-again c = (omega arith, part (c .before .before))
 
+sub-rest : tie.Need-sub-rest Inv-loop μ-loop
+sub-rest c = search needs
+
 word-at-requires-2 : tie.Need-word-at-requires-2 Inv-loop μ-loop
 word-at-requires-2 c κs = search needs
 
 add-put-part-2 : tie.Need-add-put-part-2 Inv-loop μ-loop
 add-put-part-2 c = search needs
-
-sub-put-part : tie.Need-sub-put-part Inv-loop μ-loop
-sub-put-part c = search needs
 
 put-part-requires-2 : tie.Need-put-part-requires-2 Inv-loop μ-loop
 put-part-requires-2 c κs = search needs
@@ -118,9 +118,9 @@ put-words-spec =
     add-i
     loop-less
     loop-again
+    sub-rest
     word-at-requires-2
     add-put-part-2
-    sub-put-part
     put-part-requires-2
     add-result
     same-length
