@@ -14,10 +14,11 @@ use octets::numbers::put32;
 use octets::sums::bytes_of;
 use octets::sums::sum;
 use posts::heights::word_of_short;
+use posts::parts::MOST;
 use sources::Source;
 use sources::height_at;
 
-// At most 256 words, of as many heights from height `first` on, put from `at` on: the sum of their bytes.
+// A part of a column, of as many words as heights from height `first` on, put from `at` on: the sum of their bytes.
 fn put_part(
     out: &mut [u8],
     at: usize,
@@ -59,9 +60,9 @@ fn put_words(
 {
     let mut sum = 0;
     let mut i = 0;
-    while 256 <= posts - i {
-        sum += put_part(out, word_at(i), source, numbers, bytes, first + i, 256);
-        i += 256;
+    while MOST <= posts - i {
+        sum += put_part(out, word_at(i), source, numbers, bytes, first + i, MOST);
+        i += MOST;
     }
     let rest = posts - i;
     sum + put_part(out, word_at(i), source, numbers, bytes, first + i, rest)

@@ -49,10 +49,3 @@ fits-16 (negsuc n) e = record { sfits = omega (arith, leb-true n 32767 (both-tru
 
 pub twos-back : (z : ℤ) → between (negℤ (pos 32768)) (pos 32767) z ≡ true → (twosWord z < 0x10000) × (twosOf (twosWord z) ≡ z)
 twos-back z e = back z (fits-16 z e)
-
--- the word of a number, as the machine makes it
-pub word-below : (z : ℤ) (n : ℕ) → z ≡ negsuc n → 0xFFFF - n ≡ twosWord z
-word-below z n e = rw e (omega arith)
-
-pub word-from-zero : (z : ℤ) (n : ℕ) → z ≡ pos n → n ≡ twosWord z
-word-from-zero z n e = rw e

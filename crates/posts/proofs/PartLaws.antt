@@ -18,21 +18,16 @@ use Rattle.octets.proofs.ChoiceLaws.{both-true, by-order, by-equal}
 use Rattle.octets.proofs.NumberLaws.{number-two}
 use Rattle.octets.proofs.SumLaws.{sum-step}
 use Rattle.octets.proofs.TwosLaws.{twos-low, twos-high}
+use Rattle.posts.specs.Parts.{turnBy, deepestTurned, extremesAllowed}
 use Rattle.posts.specs.Words.{wordAllowed, wordsAllowed}
 use Rattle.posts.proofs.PostWords.{up-allowed, down-allowed}
 
--- what is added to a word, in 16 bits, and the highest that it may then be
-abbrev pub turnBy : Bool → ℕ
-turnBy voids = pick voids 0x8001 0x8000
-
-abbrev pub deepest : Bool → ℤ
-deepest voids = pos (pick voids 12001 12000)
-
+-- the two tests of one word
 abbrev pub turnedAllowed : Bool → ℕ → Bool
-turnedAllowed voids w = both (leZ (twosOf w) (pos 9000)) (leZ (twosOf ((w + turnBy voids) % 0x10000)) (deepest voids))
+turnedAllowed voids w = extremesAllowed voids (twosOf w) (twosOf ((w + turnBy voids) % 0x10000))
 
 -- below the sign bit the first test decides, and the turned word is below 0, or 0 itself
-turned-up : (voids : Bool) (w : ℕ) → w < 0x8000 → leZ (twosOf ((w + turnBy voids) % 0x10000)) (deepest voids) ≡ true
+turned-up : (voids : Bool) (w : ℕ) → w < 0x8000 → leZ (twosOf ((w + turnBy voids) % 0x10000)) (deepestTurned voids) ≡ true
 turned-up true w h =
     by-equal w 0x7FFF
     (λ e. let z : (w + 0x8001) % 0x10000 ≡ 0 = omega arith in rw (z, twos-low 0 (omega arith)))
@@ -40,7 +35,7 @@ turned-up true w h =
 turned-up false w h = rw (twos-high ((w + 0x8000) % 0x10000) (omega arith) (omega arith))
 
 -- from it on the second one does: a depth, or void
-turned-down : (voids : Bool) (w : ℕ) → 0x8000 ≤ w → w < 0xFFFF → leZ (twosOf ((w + turnBy voids) % 0x10000)) (deepest voids) ≡ leb (w - 0x8000) 12000
+turned-down : (voids : Bool) (w : ℕ) → 0x8000 ≤ w → w < 0xFFFF → leZ (twosOf ((w + turnBy voids) % 0x10000)) (deepestTurned voids) ≡ leb (w - 0x8000) 12000
 turned-down true w h k =
     let e : (w + 0x8001) % 0x10000 ≡ w - 0x8000 + 1 = omega arith in
     rw (e, twos-low (w - 0x8000 + 1) (omega arith))
@@ -101,13 +96,13 @@ regroup false q r t z = refl
 module _ (voids : Bool) (s : List ℕ) (at at′ i n w : ℕ) (p p′ q q′ : Bool) where
   pub word-on : i < n → at′ ≡ at + 2 → w ≡ numberAt s at 2 → w < 0x10000
       → p′ ≡ both p (leZ (twosOf w) (pos 9000))
-      → q′ ≡ both q (leZ (twosOf ((w + turnBy voids) % 0x10000)) (deepest voids))
+      → q′ ≡ both q (leZ (twosOf ((w + turnBy voids) % 0x10000)) (deepestTurned voids))
       → both (both p′ q′) (wordsAllowed voids s at′ (n - (i + 1))) ≡ both (both p q) (wordsAllowed voids s at (n - i))
   word-on h e here small up down =
       let rest : Bool = wordsAllowed voids s (at + 2) (n - (i + 1)) in
       let found : wordsAllowed voids s at (n - i) ≡ both (turnedAllowed voids w) rest =
       words-step voids s at i n h ∙ ap (λ (z : ℕ). both (wordAllowed voids z) rest) (sym here) ∙ ap (λ (z : Bool). both z rest) (sym (turned voids w small)) in
-      rw (e, up, down, found) (regroup p q (leZ (twosOf w) (pos 9000)) (leZ (twosOf ((w + turnBy voids) % 0x10000)) (deepest voids)) rest)
+      rw (e, up, down, found) (regroup p q (leZ (twosOf w) (pos 9000)) (leZ (twosOf ((w + turnBy voids) % 0x10000)) (deepestTurned voids)) rest)
 
 -- and after the last one: the tests so far are those of all
 pub words-end : (voids : Bool) (s : List ℕ) (at i n : ℕ) (p r : Bool) → n ≤ i → both p (wordsAllowed voids s at (n - i)) ≡ r → p ≡ r

@@ -1,12 +1,10 @@
 // Parts of a column: the sum of their bytes, and whether a cell may hold all of their words, in one pass that no word ends.
 ghost use mathlib.Core.Path.{_≡_};
 ghost use Prim.Native.Nat.{_*_, _≤_};
-ghost use lib.IntN.{pos};
 ghost use lib.ListN.{take, drop};
-ghost use lib.Signed.{leZ};
-ghost use Rattle.octets.specs.Choice.{pick, both};
 ghost use Rattle.octets.specs.Sums.{sumOf};
 ghost use Rattle.posts.specs.Asked.{FewWords};
+ghost use Rattle.posts.specs.Parts.{turnBy, deepestTurned, extremesAllowed};
 ghost use Rattle.posts.specs.Words.{wordsAllowed};
 use octets::choices::both;
 use octets::extremes::larger;
@@ -24,26 +22,25 @@ pub struct Part {
     pub allowed: bool,
 }
 
-// What is added to a word, in 16 bits, so that depths come to lie above 0 and in their order, and what has no sign bit below: void, where it is
-// allowed, comes to lie at the lowest number of all.
+// What is added to a word, in 16 bits, so that depths come to lie from 0 on, and void below them where it is allowed.
 fn turn_for(voids: bool) -> u16
-    ensures { λ r. ⌜ r ≡ pick voids 0x8001 0x8000 ⌝ }
+    ensures { λ r. ⌜ r ≡ turnBy voids ⌝ }
 {
     if voids { 0x8001 } else { 0x8000 }
 }
 
-// The highest that an allowed word is when it is turned.
-fn most_for(voids: bool) -> i16
-    ensures { λ r. ⌜ r ≡ pos (pick voids 12001 12000) ⌝ }
+// Where the deepest word comes to lie.
+fn deepest_for(voids: bool) -> i16
+    ensures { λ r. ⌜ r ≡ deepestTurned voids ⌝ }
 {
     if voids { 12001 } else { 12000 }
 }
 
 // The highest of the words and of the turned ones, as two's complement numbers, tell whether each word is allowed.
 fn are_allowed(highest: i16, deepest: i16, voids: bool) -> bool
-    ensures { λ r. ⌜ r ≡ both (leZ highest (pos 9000)) (leZ deepest (pos (pick voids 12001 12000))) ⌝ }
+    ensures { λ r. ⌜ r ≡ extremesAllowed voids highest deepest ⌝ }
 {
-    both(highest <= 9000, deepest <= most_for(voids))
+    both(highest <= 9000, deepest <= deepest_for(voids))
 }
 
 // At most so many words from `at` on; a call with this very number is a loop of known length.

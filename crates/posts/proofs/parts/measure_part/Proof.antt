@@ -16,8 +16,9 @@ use Rattle.octets.specs.Choice.{both}
 use Rattle.octets.specs.Sums.{sumOf, lowsOf}
 use Rattle.octets.specs.Twos.{twosOf}
 use Rattle.octets.proofs.SumLaws.{lows-none, lows-step, sum-parts}
+use Rattle.posts.specs.Parts.{turnBy, deepestTurned, extremesAllowed}
 use Rattle.posts.specs.Words.{wordsAllowed}
-use Rattle.posts.proofs.PartLaws.{turnBy, deepest, word-on, words-end, sum-two}
+use Rattle.posts.proofs.PartLaws.{word-on, words-end, sum-two}
 use Rattle.posts.proofs.parts.measure_part.Statement.{statement}
 use Rattle.posts.proofs.parts.measure_part.Tie as tie
 
@@ -27,7 +28,7 @@ record Measured (s : List ℕ) (at n : ℕ) (voids : Bool) (high deep words high
   high-bytes : highs ≤ 255 * i
   low-bytes : lowsOf words highs ≤ 255 * i
   summed : highs + lowsOf words highs + sumOf (drop (at + 2 * i) s) ≡ sumOf (drop at s)
-  left : both (both (leZ (toZ w16 high) (pos 9000)) (leZ (toZ w16 deep) (deepest voids))) (wordsAllowed voids s (at + 2 * i) (n - i)) ≡ wordsAllowed voids s at n
+  left : both (extremesAllowed voids (toZ w16 high) (toZ w16 deep)) (wordsAllowed voids s (at + 2 * i) (n - i)) ≡ wordsAllowed voids s at n
 
 abbrev Inv-loop : tie.InvT-loop
 Inv-loop s at n voids turn high₀ deep₀ words₀ highs₀ i₀ high deep words highs i = Measured s at n voids high deep words highs i
@@ -88,18 +89,18 @@ loop-again c =
     let at = a .at + 2 * l .i in
     let on : a .at + 2 * (l .i + 1) ≡ at + 2 = omega arith in
     let high = leZ (toZ w16 (l .highest)) (pos 9000) in
-    let deep = leZ (toZ w16 (l .deepest)) (deepest (a .voids)) in
+    let deep = leZ (toZ w16 (l .deepest)) (deepestTurned (a .voids)) in
     let lows : lowsOf (c .wrapping-add-u162 .result) (l .highs + x .result / 256) ≡ lowsOf (l .words) (l .highs) + x .result % 256 =
     rw (c .wrapping-add-u162 .ensures) (lows-step (l .words) (l .highs) (x .result) (l .inv .kept) (omega (arith, l .inv .low-bytes))) in
     let up : leZ (toZ w16 (ofZ w16 (c .before .before .before .before .larger .result))) (pos 9000) ≡ both high (leZ (twosOf (x .result)) (pos 9000)) =
     let r = c .before .before .before .before .larger in
     rw (toZ-ofZ {w = w16} (record { sfits = r .ok })) (rw (toZ-ofZ {w = w16} (record { sfits = n .number-of .ok }), n .number-of .ensures) at (r .ensures (pos 9000))) in
-    let down : leZ (toZ w16 (ofZ w16 (c .before .larger2 .result))) (deepest (a .voids)) ≡ both deep (leZ (twosOf ((x .result + turnBy (a .voids)) % 0x10000)) (deepest (a .voids))) =
+    let down : leZ (toZ w16 (ofZ w16 (c .before .larger2 .result))) (deepestTurned (a .voids)) ≡ both deep (leZ (twosOf ((x .result + turnBy (a .voids)) % 0x10000)) (deepestTurned (a .voids))) =
     let r = c .before .larger2 in
     let m = c .before .before .number-of2 in
     let t = c .before .before .before .wrapping-add-u16 in
     rw (toZ-ofZ {w = w16} (record { sfits = r .ok }))
-    (rw (toZ-ofZ {w = w16} (record { sfits = m .ok }), m .ensures, t .ensures, n .before .before .before .before .turn-for .ensures) at (r .ensures (deepest (a .voids)))) in
+    (rw (toZ-ofZ {w = w16} (record { sfits = m .ok }), m .ensures, t .ensures, n .before .before .before .before .turn-for .ensures) at (r .ensures (deepestTurned (a .voids)))) in
     record {
       due = omega arith;
       kept = omega arith;
