@@ -1,6 +1,6 @@
 // What every writer judges of what it is given, from whatever source, and of the output.
 ghost use mathlib.Core.Path.{_≡_};
-ghost use Prim.Native.Nat.{_-_, _≤_};
+ghost use Prim.Native.Nat.{_-_};
 ghost use Rattle.sources.specs.Heights.{heightsFrom, countOf};
 ghost use Rattle.columns.specs.Asked.{Reaches};
 ghost use Rattle.column_writer.specs.Judged.{heightsAllowed, heightsFromThen, heightsThen, roomFor, judgedPosts};
@@ -61,7 +61,7 @@ fn judge_one_by_one(
     due: usize,
     room: usize,
 ) -> Outcome
-    requires { ⌜ (countOf (heightsFrom source (now numbers) (now bytes)) ≡ posts) × (from ≤ posts) ⌝ }
+    requires { ⌜ countOf (heightsFrom source (now numbers) (now bytes)) ≡ posts ⌝ }
     ensures { λ r. ⌜ r ≡ heightsFromThen voids (heightsFrom source (now (numbers .entry)) (now (bytes .entry))) from (posts - from) (roomFor due room) ⌝ }
 {
     let mut i = from;

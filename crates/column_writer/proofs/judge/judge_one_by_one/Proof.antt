@@ -1,5 +1,5 @@
 -- `judge_one_by_one`: what is left of the heights answers as all from the first on that is looked at.
-use Prim.Native.Nat.{_-_, _≤_}
+use Prim.Native.Nat.{_-_}
 use Rattle.octets.proofs.SearchLaws.{search-on, search-stop, search-end}
 use Rattle.sources.specs.Heights.{heightsFrom}
 use Rattle.column_writer.proofs.HeightParts.{test, refusal}
@@ -17,7 +17,7 @@ use native.Mathlib.Omega.{arith}
 abbrev Inv-loop : tie.InvT-loop
 Inv-loop source numbers bytes voids from posts due room i₀ i =
     let g = heightsFrom source numbers bytes in
-    (i ≤ posts) × (heightsFromThen voids g i (posts - i) (roomFor due room) ≡ heightsFromThen voids g from (posts - from) (roomFor due room))
+    heightsFromThen voids g i (posts - i) (roomFor due room) ≡ heightsFromThen voids g from (posts - from) (roomFor due room)
 
 abbrev μ-loop : tie.MeasureT-loop
 μ-loop source numbers bytes voids from posts due room i₀ i = posts - i
@@ -37,7 +37,7 @@ found : (c : tie.After-is-allowed Inv-loop μ-loop) →
 found c = sym (rw (height-back (c .before), toZ-ofZ (height-fits (c .before)), c .before .height-at .ensures) at (c .is-allowed .ensures))
 
 loop-holds : tie.Need-loop-holds Inv-loop μ-loop
-loop-holds c = (omega arith, refl)
+loop-holds c = refl
 
 height-at-requires : tie.Need-height-at-requires Inv-loop μ-loop
 height-at-requires c κs = search needs
@@ -54,7 +54,7 @@ returns c =
     let a = l .before .before .args in
     let g = heightsFrom (a .source) (a .numbers .now) (a .bytes .now) in
     sym (search-stop (test (a .voids) g) refusal (roomFor (a .due) (a .room)) (l .loop .i) (a .posts) (omega arith) (found (c .before) ∙ not-true _ (c .if1 .taken)))
-    ∙ l .loop .inv .1
+    ∙ l .loop .inv
 
 add-i : tie.Need-add-i Inv-loop μ-loop
 add-i c = search needs
@@ -66,11 +66,9 @@ loop-again : tie.Need-loop-again Inv-loop μ-loop
 loop-again c =
     let l = c .before .before .before .before in
     let a = l .before .before .args in
-    let g = heightsFrom (a .source) (a .numbers .now) (a .bytes .now) in (
-      omega arith,
-      sym (search-on (test (a .voids) g) refusal (roomFor (a .due) (a .room)) (l .loop .i) (a .posts) (omega arith) (found (c .before) ∙ not-false _ (c .if1 .left)))
-          ∙ l .loop .inv .1,
-    )
+    let g = heightsFrom (a .source) (a .numbers .now) (a .bytes .now) in
+    sym (search-on (test (a .voids) g) refusal (roomFor (a .due) (a .room)) (l .loop .i) (a .posts) (omega arith) (found (c .before) ∙ not-false _ (c .if1 .left)))
+    ∙ l .loop .inv
 
 judge-room-requires : tie.Need-judge-room-requires Inv-loop μ-loop
 judge-room-requires c κs = search needs
@@ -81,7 +79,7 @@ returns-2 c =
     let a = l .before .before .args in
     let g = heightsFrom (a .source) (a .numbers .now) (a .bytes .now) in
     c .judge-room .ensures
-    ∙ sym (search-end (test (a .voids) g) refusal (roomFor (a .due) (a .room)) (l .loop .i) (a .posts) (c .before .loop-test .left)) ∙ l .loop .inv .1
+    ∙ sym (search-end (test (a .voids) g) refusal (roomFor (a .due) (a .room)) (l .loop .i) (a .posts) (c .before .loop-test .left)) ∙ l .loop .inv
 
 pub judge-one-by-one-spec : {M : Type 1} → statement M
 judge-one-by-one-spec =
