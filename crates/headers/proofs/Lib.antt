@@ -1,6 +1,7 @@
 -- The laws and theorems of headers.
 pub mod TableRows
 pub mod BrokenRows
+pub mod KeptRows
 pub mod Exactly
 pub mod FirstFour
 pub mod TwoParts

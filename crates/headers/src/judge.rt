@@ -1,16 +1,17 @@
 // Judging headers: the first field in the order of the table that breaks its rule.
 ghost use mathlib.Core.Path.{_≡_};
-ghost use Prim.Native.Nat.{ℕ, _-_};
-ghost use Rattle.octets.specs.Choice.{pick};
-ghost use Rattle.octets.specs.Scan.{scan};
 ghost use Rattle.fields.specs.Table.{fieldAt};
 ghost use Rattle.headers.specs.Basis.{basisIn};
 ghost use Rattle.headers.specs.Judged as by;
-ghost use Rattle.headers.specs.Asked.{RowsToJudge, RowToTell, LatitudeInRange};
+ghost use Rattle.headers.specs.Asked.{RowToTell, LatitudeInRange};
 use crate::Facts;
 use crate::JudgedHeaders;
 use crate::readings::level_at;
 use crate::readings::origin;
+use crate::rows::FIRST;
+use crate::rows::first_broken;
+use crate::rows::four_keep;
+use crate::rows::rest_keep;
 use angles::EASTWARD;
 use angles::NORTHWARD;
 use answers::Refusal;
@@ -22,28 +23,7 @@ use layout::HEADER_BYTES;
 use layout::zones::near_edge;
 use octets::choices::both;
 use octets::digits::decimal;
-use rules::kinds::keeps;
 use years::Year;
-
-// Level and origin stand in the first rows, in which nothing is due by them.
-const FIRST: usize = 4;
-
-// The first row from `from` on and below `to` whose field breaks its rule; `to` where none does.
-fn first_broken(s: &[u8], basis: Basis, from: usize, to: usize) -> usize
-    requires { ⌜ RowsToJudge (now s) basis from to ⌝ }
-    ensures { λ r. ⌜ r ≡ scan (λ (i : ℕ) (rest : ℕ). pick (by.keeps (now (s .entry)) basis (fieldAt i)) rest i) to from (to - from) ⌝ }
-{
-    for row in from..to {
-        let field = fields::row(row);
-        let at = field.0;
-        let len = field.1;
-        let kind = field.2;
-        if !keeps(kind, basis, &s[at..at + len]) {
-            return row;
-        }
-    }
-    to
-}
 
 // The refusal of a row whose field breaks its rule: number and place are chosen here alone.
 fn broken(s: &[u8], basis: Basis, row: usize) -> Refusal
@@ -81,13 +61,13 @@ pub fn judge(s: &[u8]) -> JudgedHeaders
     if s.len() < HEADER_BYTES {
         return JudgedHeaders::Refused(Refusal::Short(s.len()));
     }
-    let early = first_broken(s, NOTHING, 0, FIRST);
-    if early < FIRST {
-        return JudgedHeaders::Refused(broken(s, NOTHING, early));
+    if !four_keep(s, NOTHING, 0) {
+        let row = first_broken(s, NOTHING, 0, FIRST);
+        return JudgedHeaders::Refused(broken(s, NOTHING, row));
     }
     let basis = basis_in(s);
-    let row = first_broken(s, basis, FIRST, FIELDS);
-    if row < FIELDS {
+    if !rest_keep(s, basis) {
+        let row = first_broken(s, basis, FIRST, FIELDS);
         return JudgedHeaders::Refused(broken(s, basis, row));
     }
     let grid = basis.grid;

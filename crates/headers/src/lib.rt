@@ -4,6 +4,7 @@ use layout::Grid;
 
 pub mod judge;
 pub mod readings;
+pub mod rows;
 
 // What the rest of the library needs of good headers. Angles are counted as in `angles`.
 pub struct Facts {
