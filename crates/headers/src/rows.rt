@@ -8,7 +8,6 @@ ghost use Rattle.fields.specs.Table.{fieldAt};
 ghost use Rattle.headers.specs.Judged as by;
 ghost use Rattle.headers.specs.Asked.{RowsToJudge, RowToTell};
 use due::Basis;
-use octets::choices::both;
 use rules::kinds::keeps;
 
 // Level and origin stand in the first rows, in which nothing is due by them.
@@ -26,32 +25,55 @@ fn row_keeps(s: &[u8], basis: Basis, row: usize) -> bool
     keeps(kind, basis, &s[at..at + len])
 }
 
-// Whether the fields of four rows do.
+// Whether rows before kept their rules, and this one keeps its own; it is not looked at where one of them did not.
+fn also_row(kept: bool, s: &[u8], basis: Basis, row: usize) -> bool
+    requires { ⌜ RowToTell (now s) basis row ⌝ }
+    ensures { λ r. ⌜ r ≡ both kept (by.keeps (now (s .entry)) basis (fieldAt row)) ⌝ }
+{
+    if kept {
+        row_keeps(s, basis, row)
+    } else {
+        false
+    }
+}
+
+// Whether four rows keep their rules.
 pub fn four_keep(s: &[u8], basis: Basis, from: usize) -> bool
     requires { ⌜ RowsToJudge (now s) basis from (from + 4) ⌝ }
     ensures { λ r. ⌜ r ≡ scan (λ (i : ℕ) (rest : Bool). both (by.keeps (now (s .entry)) basis (fieldAt i)) rest) true from 4 ⌝ }
 {
     let mut kept = row_keeps(s, basis, from);
-    kept = both(kept, row_keeps(s, basis, from + 1));
-    kept = both(kept, row_keeps(s, basis, from + 2));
-    both(kept, row_keeps(s, basis, from + 3))
+    kept = also_row(kept, s, basis, from + 1);
+    kept = also_row(kept, s, basis, from + 2);
+    also_row(kept, s, basis, from + 3)
 }
 
-// Whether those of all rows after the first four do. No loop, and no branch: a compiler then sees which row is which, and what is left of
-// each is the test of its own bytes.
+// Whether rows before kept their rules, and four more keep theirs.
+fn also_four(kept: bool, s: &[u8], basis: Basis, from: usize) -> bool
+    requires { ⌜ RowsToJudge (now s) basis from (from + 4) ⌝ }
+    ensures { λ r. ⌜ r ≡ both kept (scan (λ (i : ℕ) (rest : Bool). both (by.keeps (now (s .entry)) basis (fieldAt i)) rest) true from 4) ⌝ }
+{
+    if kept {
+        four_keep(s, basis, from)
+    } else {
+        false
+    }
+}
+
+// Whether all rows after the first four keep their rules. No loop: a compiler is told which row is which, and leaves of each the test of its bytes.
 pub fn rest_keep(s: &[u8], basis: Basis) -> bool
     requires { ⌜ RowsToJudge (now s) basis 4 40 ⌝ }
     ensures { λ r. ⌜ r ≡ scan (λ (i : ℕ) (rest : Bool). both (by.keeps (now (s .entry)) basis (fieldAt i)) rest) true 4 36 ⌝ }
 {
     let mut kept = four_keep(s, basis, FIRST);
-    kept = both(kept, four_keep(s, basis, 8));
-    kept = both(kept, four_keep(s, basis, 12));
-    kept = both(kept, four_keep(s, basis, 16));
-    kept = both(kept, four_keep(s, basis, 20));
-    kept = both(kept, four_keep(s, basis, 24));
-    kept = both(kept, four_keep(s, basis, 28));
-    kept = both(kept, four_keep(s, basis, 32));
-    both(kept, four_keep(s, basis, 36))
+    kept = also_four(kept, s, basis, 8);
+    kept = also_four(kept, s, basis, 12);
+    kept = also_four(kept, s, basis, 16);
+    kept = also_four(kept, s, basis, 20);
+    kept = also_four(kept, s, basis, 24);
+    kept = also_four(kept, s, basis, 28);
+    kept = also_four(kept, s, basis, 32);
+    also_four(kept, s, basis, 36)
 }
 
 // The first row from `from` on and below `to` whose field breaks its rule; `to` where none does.

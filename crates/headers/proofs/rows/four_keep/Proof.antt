@@ -1,6 +1,6 @@
 -- `four_keep`: row after row.
 use borrow.Author.Needs.{needs}
-use mathlib.Core.Path.{sym, _∙_}
+use mathlib.Core.Path.{sym}
 use Rattle.headers.proofs.KeptRows.{kept-four}
 use Rattle.headers.proofs.rows.four_keep.Statement.{statement}
 use Rattle.headers.proofs.rows.four_keep.Tie as tie
@@ -8,50 +8,40 @@ use Rattle.headers.proofs.rows.four_keep.Tie as tie
 row-keeps-requires : tie.Need-row-keeps-requires
 row-keeps-requires c κs = search needs
 
-add-row-keeps : tie.Need-add-row-keeps
-add-row-keeps c = search needs
+add-also-row : tie.Need-add-also-row
+add-also-row c = search needs
 
-row-keeps-requires-2 : tie.Need-row-keeps-requires-2
-row-keeps-requires-2 c κs = search needs
+also-row-requires : tie.Need-also-row-requires
+also-row-requires c κs = search needs
 
-both-requires : tie.Need-both-requires
-both-requires c κs = search needs
+add-also-row-2 : tie.Need-add-also-row-2
+add-also-row-2 c = search needs
 
-add-row-keeps-2 : tie.Need-add-row-keeps-2
-add-row-keeps-2 c = search needs
+also-row-requires-2 : tie.Need-also-row-requires-2
+also-row-requires-2 c κs = search needs
 
-row-keeps-requires-3 : tie.Need-row-keeps-requires-3
-row-keeps-requires-3 c κs = search needs
+add-also-row-3 : tie.Need-add-also-row-3
+add-also-row-3 c = search needs
 
-both-requires-2 : tie.Need-both-requires-2
-both-requires-2 c κs = search needs
-
-add-row-keeps-3 : tie.Need-add-row-keeps-3
-add-row-keeps-3 c = search needs
-
-row-keeps-requires-4 : tie.Need-row-keeps-requires-4
-row-keeps-requires-4 c κs = search needs
-
-both-requires-3 : tie.Need-both-requires-3
-both-requires-3 c κs = search needs
+also-row-requires-3 : tie.Need-also-row-requires-3
+also-row-requires-3 c κs = search needs
 
 returns : tie.Need-returns
 returns c =
-    let a = c .before .before .before .before .before .before .before .before .args in
-    (cc) ∙ sym (kept-four (a .s .now) (a .basis) (a .from))
+    let third = c .before in
+    let first = third .before .before in
+    let a = first .before .before .args in
+    rw (c .also-row3 .ensures, third .also-row2 .ensures, third .before .also-row .ensures, first .row-keeps .ensures) (sym (kept-four (a .s .now) (a .basis) (a .from)))
 
 pub four-keep-spec : {M : Type 1} → statement M
 four-keep-spec =
     tie.close
     (tie.spec
     row-keeps-requires
-    add-row-keeps
-    row-keeps-requires-2
-    both-requires
-    add-row-keeps-2
-    row-keeps-requires-3
-    both-requires-2
-    add-row-keeps-3
-    row-keeps-requires-4
-    both-requires-3
+    add-also-row
+    also-row-requires
+    add-also-row-2
+    also-row-requires-2
+    add-also-row-3
+    also-row-requires-3
     returns)
