@@ -6,7 +6,8 @@ use lib.IntN.{ℤ, pos, negsuc}
 use lib.Signed.{ltZ, leZ}
 use borrow.Author.Tests.{leb-true, ltb-true, ltb-false, le-leb}
 use Rattle.octets.specs.Choice.{both}
-use Rattle.octets.proofs.ChoiceLaws.{both-true, both-is, same-test}
+use Rattle.octets.specs.Extremes.{largerOf, smallerOf}
+use Rattle.octets.proofs.ChoiceLaws.{both-true, both-is, by-test, same-test}
 
 -- at most a number that is at most a third
 le-le : (a b m : ℤ) → leZ a b ≡ true → leZ b m ≡ true → leZ a m ≡ true
@@ -38,14 +39,16 @@ second-says : (p q : Bool) → (q ≡ true → p ≡ true) → q ≡ both p q
 second-says p q f = same-test q (both p q) (λ h. both-is p q (f h) h) (λ h. both-true p q h .1)
 
 module _ (a b m : ℤ) where
-  pub upper : ltZ a b ≡ true → leZ b m ≡ both (leZ a m) (leZ b m)
-  upper h = second-says (leZ a m) (leZ b m) (le-le a b m (lt-le a b h))
+  pub at-most : leZ (largerOf a b) m ≡ both (leZ a m) (leZ b m)
+  unfolding largerOf
+  at-most =
+      by-test (ltZ a b)
+      (λ h. rw h (second-says (leZ a m) (leZ b m) (le-le a b m (lt-le a b h))))
+      (λ h. rw h (first-says (leZ a m) (leZ b m) (le-le b a m (not-lt-le a b h))))
 
-  pub upper-first : ltZ a b ≡ false → leZ a m ≡ both (leZ a m) (leZ b m)
-  upper-first h = first-says (leZ a m) (leZ b m) (le-le b a m (not-lt-le a b h))
-
-  pub lower : ltZ a b ≡ true → leZ m a ≡ both (leZ m a) (leZ m b)
-  lower h = first-says (leZ m a) (leZ m b) (λ k. le-le m a b k (lt-le a b h))
-
-  pub lower-second : ltZ a b ≡ false → leZ m b ≡ both (leZ m a) (leZ m b)
-  lower-second h = second-says (leZ m a) (leZ m b) (λ k. le-le m b a k (not-lt-le a b h))
+  pub at-least : leZ m (smallerOf a b) ≡ both (leZ m a) (leZ m b)
+  unfolding smallerOf
+  at-least =
+      by-test (ltZ a b)
+      (λ h. rw h (first-says (leZ m a) (leZ m b) (λ k. le-le m a b k (lt-le a b h))))
+      (λ h. rw h (second-says (leZ m a) (leZ m b) (λ k. le-le m b a k (not-lt-le a b h))))

@@ -7,6 +7,7 @@ pub mod Places
 pub mod Numbers
 pub mod Sums
 pub mod Twos
+pub mod Extremes
 pub mod Digits
 pub mod Texts
 pub mod Pastes

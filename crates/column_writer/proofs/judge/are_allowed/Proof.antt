@@ -2,12 +2,15 @@
 use Prim.Native.Nat.{_+_, _-_, _≤_}
 use native.Mathlib.Nat.{add-zero, sub-zero}
 use native.Mathlib.Omega.{arith}
-use mathlib.Core.Path.{_≡_, sym, _∙_}
+use mathlib.Core.Path.{_≡_, sym, ap, _∙_}
+use lib.IntN.{ℤ}
+use lib.Signed.{leZ}
 use mir.Facts.{toZ-ofZ}
 use mir.Syntax.{w16}
 use mir.Val.{toZ, ofZ}
 use borrow.Author.Needs.{needs}
 use Rattle.octets.specs.Choice.{both}
+use Rattle.octets.proofs.ExtremeLaws.{at-least, at-most}
 use Rattle.posts.specs.Spans.{countedAs, spanInRange}
 use Rattle.posts.proofs.SpanLaws.{span-none}
 use Rattle.sources.specs.Heights.{heightsFrom, nthHeight}
@@ -68,8 +71,8 @@ loop-again c =
       omega arith,
       rw (toZ-ofZ {w = w16} {z = s .smaller .result} (record { sfits = s .smaller .ok }), toZ-ofZ {w = w16} {z = c .larger .result} (record { sfits = c .larger .ok }))
           (height-more (a .voids) g (a .from) (l .loop .i) (a .n) (omega arith) (toZ w16 (l .loop .lowest)) (toZ w16 (l .loop .highest)) (s .smaller .result) (c .larger .result)
-          (λ least. rw (counts k) at (s .smaller .ensures least))
-          (λ most. rw (counts k) at (c .larger .ensures most))
+          (λ least. rw (counts k) at (ap (λ (z : ℤ). leZ least z) (s .smaller .ensures) ∙ at-least _ _ least))
+          (λ most. rw (counts k) at (ap (λ (z : ℤ). leZ z most) (c .larger .ensures) ∙ at-most _ _ most))
           ∙ l .loop .inv .1),
     )
 

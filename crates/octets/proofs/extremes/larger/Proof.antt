@@ -1,20 +1,22 @@
--- `larger`: the one that is kept is at most any number exactly where both are.
+-- `larger`: what the machine compares are the numbers themselves.
 use mir.Facts.{toZ-ofZ}
-use Rattle.octets.proofs.ExtremeLaws.{upper, upper-first}
+use Rattle.octets.specs.Extremes.{largerOf}
 use Rattle.octets.proofs.extremes.larger.Statement.{statement}
 use Rattle.octets.proofs.extremes.larger.Tie as tie
 
 returns : tie.Need-returns
-returns c most =
-    let a = c .before .args in
+unfolding largerOf
+returns c =
     let f = c .before .fits in
-    rw (toZ-ofZ (f .b)) (upper (a .a) (a .b) most (rw (toZ-ofZ (f .a), toZ-ofZ (f .b)) at (c .if1 .taken)))
+    let e = rw (toZ-ofZ (f .a), toZ-ofZ (f .b)) at (c .if1 .taken) in
+    rw (toZ-ofZ (f .b), e)
 
 returns-2 : tie.Need-returns-2
-returns-2 c most =
-    let a = c .before .args in
+unfolding largerOf
+returns-2 c =
     let f = c .before .fits in
-    rw (toZ-ofZ (f .a)) (upper-first (a .a) (a .b) most (rw (toZ-ofZ (f .a), toZ-ofZ (f .b)) at (c .if1 .left)))
+    let e = rw (toZ-ofZ (f .a), toZ-ofZ (f .b)) at (c .if1 .left) in
+    rw (toZ-ofZ (f .a), e)
 
 pub larger-spec : {M : Type 1} → statement M
 larger-spec = tie.close (tie.spec returns returns-2)

@@ -3,7 +3,7 @@ use Prim.Native.Nat.{ℕ, _+_, _*_, _-_, _/_, _%_, _<_, _≤_}
 use native.Mathlib.Nat.{add-zero, sub-zero}
 use native.Mathlib.Omega.{arith}
 use borrow.Author.Needs.{needs}
-use mathlib.Core.Path.{_≡_, _∙_}
+use mathlib.Core.Path.{_≡_, ap, _∙_}
 use mathlib.Core.Bool.{Bool}
 use mathlib.Core.List.{List}
 use lib.IntN.{ℤ, pos}
@@ -15,6 +15,7 @@ use mir.Facts.{toZ-ofZ}
 use Rattle.octets.specs.Choice.{both}
 use Rattle.octets.specs.Sums.{sumOf, lowsOf}
 use Rattle.octets.specs.Twos.{twosOf}
+use Rattle.octets.proofs.ExtremeLaws.{at-most}
 use Rattle.octets.proofs.SumLaws.{lows-none, lows-step, sum-parts}
 use Rattle.posts.specs.Parts.{turnBy, deepestTurned, extremesAllowed}
 use Rattle.posts.specs.Words.{wordsAllowed}
@@ -94,13 +95,13 @@ loop-again c =
     rw (c .wrapping-add-u162 .ensures) (lows-step (l .words) (l .highs) (x .result) (l .inv .kept) (omega (arith, l .inv .low-bytes))) in
     let up : leZ (toZ w16 (ofZ w16 (c .before .before .before .before .larger .result))) (pos 9000) ≡ both high (leZ (twosOf (x .result)) (pos 9000)) =
     let r = c .before .before .before .before .larger in
-    rw (toZ-ofZ {w = w16} (record { sfits = r .ok })) (rw (toZ-ofZ {w = w16} (record { sfits = n .number-of .ok }), n .number-of .ensures) at (r .ensures (pos 9000))) in
+    rw (toZ-ofZ {w = w16} (record { sfits = r .ok })) (rw (toZ-ofZ {w = w16} (record { sfits = n .number-of .ok }), n .number-of .ensures) at (ap (λ (z : ℤ). leZ z (pos 9000)) (r .ensures) ∙ at-most _ _ (pos 9000))) in
     let down : leZ (toZ w16 (ofZ w16 (c .before .larger2 .result))) (deepestTurned (a .voids)) ≡ both deep (leZ (twosOf ((x .result + turnBy (a .voids)) % 0x10000)) (deepestTurned (a .voids))) =
     let r = c .before .larger2 in
     let m = c .before .before .number-of2 in
     let t = c .before .before .before .wrapping-add-u16 in
     rw (toZ-ofZ {w = w16} (record { sfits = r .ok }))
-    (rw (toZ-ofZ {w = w16} (record { sfits = m .ok }), m .ensures, t .ensures, n .before .before .before .before .turn-for .ensures) at (r .ensures (deepestTurned (a .voids)))) in
+    (rw (toZ-ofZ {w = w16} (record { sfits = m .ok }), m .ensures, t .ensures, n .before .before .before .before .turn-for .ensures) at (ap (λ (z : ℤ). leZ z (deepestTurned (a .voids))) (r .ensures) ∙ at-most _ _ (deepestTurned (a .voids)))) in
     record {
       due = omega arith;
       kept = omega arith;
