@@ -25,7 +25,7 @@ fn row_keeps(s: &[u8], basis: Basis, row: usize) -> bool
     keeps(kind, basis, &s[at..at + len])
 }
 
-// Whether rows before kept their rules, and this one keeps its own; it is not looked at where one of them did not.
+// Whether rows before kept their rules, and this one keeps its own, which is looked at only where they did.
 fn also_row(kept: bool, s: &[u8], basis: Basis, row: usize) -> bool
     requires { ⌜ RowToTell (now s) basis row ⌝ }
     ensures { λ r. ⌜ r ≡ both kept (by.keeps (now (s .entry)) basis (fieldAt row)) ⌝ }
@@ -60,7 +60,8 @@ fn also_four(kept: bool, s: &[u8], basis: Basis, from: usize) -> bool
     }
 }
 
-// Whether all rows after the first four keep their rules. No loop: a compiler is told which row is which, and leaves of each the test of its bytes.
+// Whether all rows after the first four keep their rules. The rows are named and not counted in a loop: so a compiler knows each row's
+// field, and leaves of its rule the test of its own bytes.
 pub fn rest_keep(s: &[u8], basis: Basis) -> bool
     requires { ⌜ RowsToJudge (now s) basis 4 40 ⌝ }
     ensures { λ r. ⌜ r ≡ scan (λ (i : ℕ) (rest : Bool). both (by.keeps (now (s .entry)) basis (fieldAt i)) rest) true 4 36 ⌝ }
