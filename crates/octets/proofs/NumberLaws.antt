@@ -52,10 +52,6 @@ swapped-bytes v h =
     let low : v % 256 ≡ (v % 256 * 256 + v / 256) / 256 = omega arith in
     ap (λ (b : ℕ). b ∷ v % 256 ∷ []) high ∙ ap (λ (b : ℕ). (v % 256 * 256 + v / 256) % 256 ∷ b ∷ []) low
 
--- two bytes read with the low one first, and exchanged: what the halves then are
-pub swapped-halves : (a b v : ℕ) → a < 256 → b < 256 → v ≡ a + b * 256
-    → ((v % 256 * 256 + v / 256) / 256 ≡ a) × ((v % 256 * 256 + v / 256) % 256 ≡ b)
-swapped-halves a b v h k e =
-    let low : v % 256 ≡ a = omega arith in
-    let high : v / 256 ≡ b = omega arith in
-    rw (low, high) (omega arith, omega arith)
+-- two bytes read with the low one first, and exchanged, as code reads them
+pub swapped-number : (s : List ℕ) (at v : ℕ) → v % 256 ≡ getD s at 0 → v / 256 ≡ getD s (at + 1) 0 → v % 256 * 256 + v / 256 ≡ numberAt s at 2
+swapped-number s at v low high = rw (low, high) (sym (number-two s at))

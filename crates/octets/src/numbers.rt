@@ -20,27 +20,25 @@ fn wide16(x: u8) -> u16
 }
 
 // Two bytes, the low one first, as the machine has them: by itself, so that a compiler makes one load of the two before it swaps them.
-fn low_first(s: &[u8], at: usize) -> u16
+pub fn low_first(s: &[u8], at: usize) -> u16
     requires { ⌜ at + 2 ≤ length (now s) ⌝ }
-    ensures { λ r. ⌜ (r ≡ getD (now (s .entry)) at 0 + getD (now (s .entry)) (at + 1) 0 * 256) × (getD (now (s .entry)) at 0 < 256) × (getD (now (s .entry)) (at + 1) 0 < 256) ⌝ }
+    ensures { λ r. ⌜ (r % 256 ≡ getD (now (s .entry)) at 0) × (r / 256 ≡ getD (now (s .entry)) (at + 1) 0) ⌝ }
 {
     wide16(s[at]) + wide16(s[at + 1]) * 256
 }
 
-// A word of two bytes, and what its halves are.
-pub fn word(s: &[u8], at: usize) -> u16
-    requires { ⌜ at + 2 ≤ length (now s) ⌝ }
-    ensures { λ r. ⌜ (r ≡ numberAt (now (s .entry)) at 2) × (r / 256 ≡ getD (now (s .entry)) at 0) × (r % 256 ≡ getD (now (s .entry)) (at + 1) 0) ⌝ }
+// A word with its two bytes exchanged.
+pub fn swapped(v: u16) -> u16
+    ensures { λ r. ⌜ r ≡ v % 256 * 256 + v / 256 ⌝ }
 {
-    let swapped = low_first(s, at);
-    swapped % 256 * 256 + swapped / 256
+    v % 256 * 256 + v / 256
 }
 
 pub fn be16(s: &[u8], at: usize) -> u16
     requires { ⌜ at + 2 ≤ length (now s) ⌝ }
     ensures { λ r. ⌜ r ≡ numberAt (now (s .entry)) at 2 ⌝ }
 {
-    word(s, at)
+    swapped(low_first(s, at))
 }
 
 pub fn be24(s: &[u8], at: usize) -> u32
@@ -70,7 +68,7 @@ pub fn put16(s: &mut [u8], at: usize, v: u16)
     requires { ⌜ at + 2 ≤ length (now s) ⌝ }
     ensures { λ _. ⌜ now (s .exit) ≡ pasted (now (s .entry)) at (bytesOf 2 v) ⌝ }
 {
-    put_low_first(s, at, v % 256 * 256 + v / 256);
+    put_low_first(s, at, swapped(v));
 }
 
 // The low three bytes of a number.

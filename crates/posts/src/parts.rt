@@ -8,7 +8,8 @@ ghost use Rattle.posts.specs.Parts.{turnBy, deepestTurned, extremesAllow
 ghost use Rattle.posts.specs.Words.{wordsAllowed};
 use octets::choices::both;
 use octets::extremes::larger;
-use octets::numbers::word;
+use octets::numbers::low_first;
+use octets::numbers::swapped;
 use octets::sums::bytes_of;
 use octets::twos::number_of;
 use std::num::wrapping_add_u16;
@@ -43,7 +44,8 @@ fn are_allowed(highest: i16, deepest: i16, voids: bool) -> bool
     both(highest <= 9000, deepest <= deepest_for(voids))
 }
 
-// At most so many words from `at` on; a call with this very number is a loop of known length.
+// At most so many words from `at` on; a call with this very number is a loop of known length. Bytes are summed in the order that they were read
+// in, since a sum does not mind it.
 pub fn measure_part(s: &[u8], at: usize, n: usize, voids: bool) -> Part
     requires { ⌜ FewWords (now s) at n ⌝ }
     ensures { λ r. ⌜ (r .sum ≡ sumOf (take (2 * n) (drop at (now (s .entry))))) × (r .sum ≤ 510 * n) ⌝ }
@@ -56,11 +58,12 @@ pub fn measure_part(s: &[u8], at: usize, n: usize, voids: bool) -> Part
     let mut highs: u16 = 0;
     let mut i = 0;
     while i < n {
-        let w = word(s, at + 2 * i);
-        highest = larger(highest, number_of(w));
-        deepest = larger(deepest, number_of(wrapping_add_u16(w, turn)));
-        words = wrapping_add_u16(words, w);
-        highs += w / 256;
+        let read = low_first(s, at + 2 * i);
+        let word = swapped(read);
+        highest = larger(highest, number_of(word));
+        deepest = larger(deepest, number_of(wrapping_add_u16(word, turn)));
+        words = wrapping_add_u16(words, read);
+        highs += read / 256;
         i += 1;
     }
     Part {

@@ -1,15 +1,12 @@
 -- `put16`: swapped, the two bytes are the word's, the high one first.
 use Rattle.octets.proofs.NumberLaws.{swapped-bytes}
-use borrow.Author.Needs.{needs}
 use native.Mathlib.Omega.{arith}
+use borrow.Author.Needs.{needs}
 use Rattle.octets.proofs.numbers.put16.Statement.{statement}
 use Rattle.octets.proofs.numbers.put16.Tie as tie
 
-mul-put-low-first : tie.Need-mul-put-low-first
-mul-put-low-first c = search needs
-
-add-put-low-first : tie.Need-add-put-low-first
-add-put-low-first c = search needs
+swapped-requires : tie.Need-swapped-requires
+swapped-requires c κs = search needs
 
 put-low-first-requires : tie.Need-put-low-first-requires
 put-low-first-requires c κs = search needs
@@ -18,9 +15,9 @@ same-length : tie.Need-same-length
 same-length c = search needs
 
 returns : tie.Need-returns
-returns c = rw (swapped-bytes (c .before .before .before .before .before .args .v) (omega arith)) (c .before .before .put-low-first .ensures)
+returns c =
+    let w = c .before .before .before in
+    rw (swapped-bytes (w .before .before .before .args .v) (omega arith)) (rw (w .swapped .ensures) at (c .before .before .put-low-first .ensures))
 
 pub put16-spec : {M : Type 1} → statement M
-put16-spec =
-    tie.close
-    (tie.spec mul-put-low-first add-put-low-first put-low-first-requires same-length returns)
+put16-spec = tie.close (tie.spec swapped-requires put-low-first-requires same-length returns)

@@ -16,6 +16,7 @@ use Rattle.octets.specs.Choice.{both}
 use Rattle.octets.specs.Sums.{sumOf, lowsOf}
 use Rattle.octets.specs.Twos.{twosOf}
 use Rattle.octets.proofs.ExtremeLaws.{at-most}
+use Rattle.octets.proofs.NumberLaws.{swapped-number}
 use Rattle.octets.proofs.SumLaws.{lows-none, lows-step, sum-parts}
 use Rattle.posts.specs.Parts.{turnBy, deepestTurned, extremesAllowed}
 use Rattle.posts.specs.Words.{wordsAllowed}
@@ -45,14 +46,17 @@ loop-holds c =
     let at = c .before .before .args .at in
     record { due = omega arith; kept = omega arith; high-bytes = omega arith; low-bytes = rw lows-none (omega arith); summed = rw (add-zero at) (omega (arith, lows-none)); left = rw (add-zero at, sub-zero) }
 
-mul-word : tie.Need-mul-word Inv-loop μ-loop
-mul-word c = search needs
+mul-low-first : tie.Need-mul-low-first Inv-loop μ-loop
+mul-low-first c = search needs
 
-add-word : tie.Need-add-word Inv-loop μ-loop
-add-word c = search needs
+add-low-first : tie.Need-add-low-first Inv-loop μ-loop
+add-low-first c = search needs
 
-word-requires : tie.Need-word-requires Inv-loop μ-loop
-word-requires c κs = search needs
+low-first-requires : tie.Need-low-first-requires Inv-loop μ-loop
+low-first-requires c κs = search needs
+
+swapped-requires : tie.Need-swapped-requires Inv-loop μ-loop
+swapped-requires c κs = search needs
 
 number-of-requires : tie.Need-number-of-requires Inv-loop μ-loop
 number-of-requires c κs = search needs
@@ -84,31 +88,32 @@ loop-less c = search needs
 loop-again : tie.Need-loop-again Inv-loop μ-loop
 loop-again c =
     let n = c .before .before .before .before .before in
-    let x = n .before .word in
-    let l = n .before .before .before .loop in
-    let a = n .before .before .before .before .before .before .args in
+    let w = n .before .swapped in
+    let x = n .before .before .low-first in
+    let l = n .before .before .before .before .loop in
+    let a = n .before .before .before .before .before .before .before .args in
     let at = a .at + 2 * l .i in
     let on : a .at + 2 * (l .i + 1) ≡ at + 2 = omega arith in
     let high = leZ (toZ w16 (l .highest)) (pos 9000) in
     let deep = leZ (toZ w16 (l .deepest)) (deepestTurned (a .voids)) in
     let lows : lowsOf (c .wrapping-add-u162 .result) (l .highs + x .result / 256) ≡ lowsOf (l .words) (l .highs) + x .result % 256 =
     rw (c .wrapping-add-u162 .ensures) (lows-step (l .words) (l .highs) (x .result) (l .inv .kept) (omega (arith, l .inv .low-bytes))) in
-    let up : leZ (toZ w16 (ofZ w16 (c .before .before .before .before .larger .result))) (pos 9000) ≡ both high (leZ (twosOf (x .result)) (pos 9000)) =
+    let up : leZ (toZ w16 (ofZ w16 (c .before .before .before .before .larger .result))) (pos 9000) ≡ both high (leZ (twosOf (w .result)) (pos 9000)) =
     let r = c .before .before .before .before .larger in
     rw (toZ-ofZ {w = w16} (record { sfits = r .ok })) (rw (toZ-ofZ {w = w16} (record { sfits = n .number-of .ok }), n .number-of .ensures) at (ap (λ (z : ℤ). leZ z (pos 9000)) (r .ensures) ∙ at-most _ _ (pos 9000))) in
-    let down : leZ (toZ w16 (ofZ w16 (c .before .larger2 .result))) (deepestTurned (a .voids)) ≡ both deep (leZ (twosOf ((x .result + turnBy (a .voids)) % 0x10000)) (deepestTurned (a .voids))) =
+    let down : leZ (toZ w16 (ofZ w16 (c .before .larger2 .result))) (deepestTurned (a .voids)) ≡ both deep (leZ (twosOf ((w .result + turnBy (a .voids)) % 0x10000)) (deepestTurned (a .voids))) =
     let r = c .before .larger2 in
     let m = c .before .before .number-of2 in
     let t = c .before .before .before .wrapping-add-u16 in
     rw (toZ-ofZ {w = w16} (record { sfits = r .ok }))
-    (rw (toZ-ofZ {w = w16} (record { sfits = m .ok }), m .ensures, t .ensures, n .before .before .before .before .turn-for .ensures) at (ap (λ (z : ℤ). leZ z (deepestTurned (a .voids))) (r .ensures) ∙ at-most _ _ (deepestTurned (a .voids)))) in
+    (rw (toZ-ofZ {w = w16} (record { sfits = m .ok }), m .ensures, t .ensures, n .before .before .before .before .before .turn-for .ensures) at (ap (λ (z : ℤ). leZ z (deepestTurned (a .voids))) (r .ensures) ∙ at-most _ _ (deepestTurned (a .voids)))) in
     record {
       due = omega arith;
       kept = omega arith;
       high-bytes = omega (arith, l .inv .high-bytes);
       low-bytes = rw lows (omega (arith, l .inv .low-bytes));
-      summed = rw (on, lows) (omega (arith, l .inv .summed, sum-two (a .s .now) at (omega arith), x .ensures .1, x .ensures .2));
-      left = word-on (a .voids) (a .s .now) at (a .at + 2 * (l .i + 1)) (l .i) (a .n) (x .result) high _ deep _ (omega arith) on (x .ensures .0) (omega arith) up down ∙ l .inv .left;
+      summed = rw (on, lows) (omega (arith, l .inv .summed, sum-two (a .s .now) at (omega arith), x .ensures .0, x .ensures .1));
+      left = word-on (a .voids) (a .s .now) at (a .at + 2 * (l .i + 1)) (l .i) (a .n) (w .result) high _ deep _ (omega arith) on (w .ensures ∙ swapped-number (a .s .now) at (x .result) (x .ensures .0) (x .ensures .1)) (omega arith) up down ∙ l .inv .left;
     }
 
 bytes-of-requires : tie.Need-bytes-of-requires Inv-loop μ-loop
@@ -135,9 +140,10 @@ measure-part-spec =
     μ-loop
     turn-for-requires
     loop-holds
-    mul-word
-    add-word
-    word-requires
+    mul-low-first
+    add-low-first
+    low-first-requires
+    swapped-requires
     number-of-requires
     larger-requires
     wrapping-add-u16-requires
