@@ -23,10 +23,10 @@
 #include <assert.h>
 #endif
 
-#define DTED_VERSION "0.5.0"
+#define DTED_VERSION "0.5.1"
 #define DTED_VERSION_MAJOR 0
 #define DTED_VERSION_MINOR 5
-#define DTED_VERSION_PATCH 0
+#define DTED_VERSION_PATCH 1
 
 /* The compiler says where an answer is dropped: it alone tells whether anything was done. */
 #if defined(__GNUC__)
