@@ -17,7 +17,7 @@ MACHINE :=
 # words stand in lines of make and of the shell as they are: one that would be taken apart there is refused before anything is done
 SIGNS := & | ; < > ( ) [ ] { } * ? % \# $$ \ " ' `
 taken_apart = $(strip $(filter-out 1,$(words x$($(1))x)) $(foreach sign,$(SIGNS),$(findstring $(sign),$($(1)))))
-$(foreach name,PREFIX BINDIR LIBDIR INCLUDEDIR MANDIR DESTDIR ARCHIVE INTAKE DIST CELL CPU MACHINE,\
+$(foreach name,PREFIX BINDIR LIBDIR INCLUDEDIR MANDIR DESTDIR ARCHIVE ARCHIVE_V3 INTAKE DIST CELL CPU MACHINE,\
 	$(if $(call taken_apart,$(name)),$(error $(name) may have no blank and none of $(SIGNS) in it: '$($(name))')))
 
 check:
@@ -196,47 +196,87 @@ interop:
 
 # ---- the measurements ----
 
-# native programs, so with a compiler for this machine; elsewhere than on x86-64 the proved module is compiled for it
-BENCH_CC ?= cc
+# native programs, so with compilers for this machine; elsewhere than on x86-64 the proved module is compiled for it
+BENCH_CC ?= gcc
 SECOND_CC ?= $(shell command -v clang)
 GDAL_CFLAGS ?= $(shell pkg-config --cflags gdal 2>/dev/null)
 GDAL_LIBS ?= $(shell pkg-config --libs gdal 2>/dev/null)
 BENCH_FLAGS := -std=c11 -Wall -Wextra -Wpedantic -Werror -O3 -Iinclude
-BENCH_PARTS := bench report plain limit same gdal_calls
 # make bench OLD=path: beside another archive of the library, in one run; with OLD_YEARLESS=yes beside one of before 0.5.0, whose
 # calls name no rule year
-BENCH = target/bench$(if $(OLD),-beside$(if $(OLD_YEARLESS),-yearless))
-BENCH_OBJECTS = $(BENCH_PARTS:%=$(BENCH)/%.o) $(if $(SECOND_CC),$(BENCH)/second.o) $(if $(OLD),$(BENCH)/old.a)
+BENCH = target/bench$(CPU:%=-%)$(if $(OLD),-beside$(if $(OLD_YEARLESS),-yearless))
+BENCH_PARTS := bench sets cell acts rounds report threads others same gdal_calls gdal_laps limit plain $(if $(SECOND_CC),second)
 ifeq ($(shell uname -m),x86_64)
-BENCH_ARCHIVE = $(LINKED)
+BENCH_CPU := $(or $(CPU),x86-64)
+BENCH_ARCHIVE := $(LINKED)
 else
-BENCH_ARCHIVE = target/native/libdted.a
+BENCH_CPU := $(shell uname -m)
+BENCH_ARCHIVE := target/native/libdted.a
 endif
+# where CPU names none, all of it for x86-64-v3 too; beside ARCHIVE=path the library for it is ARCHIVE_V3=path, or left out
+ifeq ($(BENCH_CPU),x86-64)
+V3 := -march=x86-64-v3
+BENCH_PARTS += limit_v3 plain_v3 $(if $(SECOND_CC),second_v3)
+ARCHIVE_V3 ?= $(if $(ARCHIVE),,target/lib/libdted-x86-64-v3.a)
+endif
+BENCH_WITH = -DBASE_CPU=$(BENCH_CPU) $(if $(V3),-DWITH_V3) $(if $(ARCHIVE_V3),-DWITH_V3_LIBRARY) $(if $(SECOND_CC),-DWITH_SECOND) \
+	$(if $(OLD),-DWITH_OLD $(if $(OLD_YEARLESS),-DOLD_YEARLESS)) $(if $(GDAL_LIBS),-DWITH_GDAL $(GDAL_CFLAGS:-I%=-isystem %))
+BENCH_MADE_OF = $(BENCH_PARTS:%=$(BENCH)/%.o) $(if $(ARCHIVE_V3),$(BENCH)/v3.a) $(if $(OLD),$(BENCH)/old.a) $(BENCH_ARCHIVE)
 
 bench: $(BENCH)/bench
-	@bench/run $<
+	@bench/run $< $(ARCHIVE)
 
 # bench/last.txt, docs/figures.svg and the tables of docs/FIGURES.md
 figures: $(BENCH)/bench
-	@bench/figures $<
+	@bench/figures $< $(ARCHIVE)
 
-# its names with old_ before them, but for the C library's; made anew each time, for OLD may name another and older file than before
+$(BENCH)/bench: $(BENCH_MADE_OF)
+	$(BENCH_CC) $^ $(GDAL_LIBS) -pthread -o $@
+
+# with other words than the last time all is made anew
+$(BENCH)/words: FORCE
+	@mkdir -p $(@D)
+	@echo '$(BENCH_CC) $(SECOND_CC) $(BENCH_WITH)' >$@.new
+	@cmp -s $@.new $@ || mv $@.new $@
+
+BENCH_NEEDS := $(wildcard bench/*.h) include/dted.h
+
+$(BENCH)/%.o: bench/%.c $(BENCH_NEEDS) $(BENCH)/words
+	$(BENCH_CC) $(BENCH_FLAGS) $(CPU:%=-march=%) $(BENCH_WITH) -c $< -o $@
+
+# plain.c and the read-only pass again, by the second compiler and for x86-64-v3, under other names
+PLAIN_AGAIN = $(BENCH_FLAGS) $(foreach call,intake post edit write compiler,-Dplain_$(call)=$(basename $(@F))_$(call)) -c $< -o $@
+
+$(BENCH)/second.o: bench/plain.c $(BENCH_NEEDS) $(BENCH)/words
+	$(SECOND_CC) $(CPU:%=-march=%) $(PLAIN_AGAIN)
+
+$(BENCH)/second_v3.o: bench/plain.c $(BENCH_NEEDS) $(BENCH)/words
+	$(SECOND_CC) $(V3) $(PLAIN_AGAIN)
+
+$(BENCH)/plain_v3.o: bench/plain.c $(BENCH_NEEDS) $(BENCH)/words
+	$(BENCH_CC) $(V3) $(PLAIN_AGAIN)
+
+$(BENCH)/limit_v3.o: bench/limit.c $(BENCH_NEEDS) $(BENCH)/words
+	$(BENCH_CC) $(V3) $(BENCH_FLAGS) -Dread_pass=read_pass_v3 -c $< -o $@
+
+# an archive's names with a word before them, but for the C library's; made anew each time, for OLD and ARCHIVE_V3 may name another and
+# older file than before
+define BESIDE
+	@mkdir -p $(@D)
+	objcopy --prefix-symbols=$(basename $(@F))_ $< $@
+	objcopy --redefine-sym $(basename $(@F))_memset=memset --redefine-sym $(basename $(@F))_memcpy=memcpy $@
+endef
+
 $(BENCH)/old.a: $(OLD) FORCE
-	@mkdir -p $(@D)
-	objcopy --prefix-symbols=old_ $< $@
-	objcopy --redefine-sym old_memset=memset --redefine-sym old_memcpy=memcpy $@
+	$(BESIDE)
 
-$(BENCH)/bench: $(BENCH_OBJECTS) $(BENCH_ARCHIVE)
-	$(BENCH_CC) $^ $(GDAL_LIBS) -o $@
+$(BENCH)/v3.a: $(ARCHIVE_V3) FORCE
+	$(BESIDE)
 
-$(BENCH)/%.o: bench/%.c $(wildcard bench/*.h) include/dted.h
-	@mkdir -p $(@D)
-	$(BENCH_CC) $(BENCH_FLAGS) $(if $(SECOND_CC),-DWITH_SECOND) $(if $(OLD),-DWITH_OLD $(if $(OLD_YEARLESS),-DOLD_YEARLESS)) $(if $(GDAL_LIBS),-DWITH_GDAL $(GDAL_CFLAGS:-I%=-isystem %)) -c $< -o $@
-
-# plain.c by another compiler, under other names
-$(BENCH)/second.o: bench/plain.c bench/plain.h include/dted.h
-	@mkdir -p $(@D)
-	$(SECOND_CC) $(BENCH_FLAGS) $(foreach call,intake post edit write compiler,-Dplain_$(call)=second_$(call)) -c $< -o $@
+ifneq ($(MADE),target/lib/libdted-x86-64-v3.a)
+target/lib/libdted-x86-64-v3.a: $(PLAIN)
+	tools/native $@ x86_64 x86-64-v3
+endif
 
 target/native/libdted.a: $(PLAIN)
 	tools/native $@

@@ -2,36 +2,53 @@
 #ifndef LAPS_H
 #define LAPS_H
 
-#include "calls.h"
+#include "cell.h"
 
-enum { ROUNDS = 31 };
+enum { ROUNDS = 31, MOST_LAPS = 250 };
+
+/* What is measured. ONE_COLUMN is a step of intake and no act of its own: the headers and one column. */
+enum act { INTAKE, POST, EDIT, WRITE, HEADERS, ONE_COLUMN, ACTS };
 
 /* One thing that is timed: `calls` calls at once. */
 struct lap {
-    const char *act, *who;
+    enum act act;
+    const char *who;
+    enum cpu cpu;
+    struct cell *cell;
+    const struct calls *with; /* null for a limit and for GDAL */
     unsigned calls;
-    const struct calls *with;
-    uint64_t (*run)(const struct lap *lap, unsigned round); /* gives the same for all laps of an act that do the same */
-    void (*turn)(void);                                     /* spoils the cell before, and mends it after */
+    uint64_t (*run)(const struct lap *lap, unsigned round); /* gives the same for all laps of an act and a cell that do the same */
     double seconds[ROUNDS];                                 /* of one call */
     uint64_t gave;
 };
 
-/* Acts whose names begin so are steps of intake, refused early: not an act of their own. */
-#define STEP "to "
+typedef uint64_t run_lap(const struct lap *lap, unsigned round);
 
-/* Prints the ratios of every act, and the parts of intake of each set of calls over so many columns. */
-void print_acts(const struct lap *laps, size_t count);
-void print_parts(const struct lap *laps, size_t count, const struct calls *sets, size_t set_count, size_t columns);
+extern struct lap laps[MOST_LAPS];
+extern size_t lap_count;
 
-/* Seconds that the machine's processors were busy, and all that they had, since it was started; 0 where that is not known. */
-struct use {
-    double busy, all;
-};
+/* One more lap, by no set of calls. */
+struct lap *plan(enum act act, struct cell *cell, const char *who, enum cpu cpu, unsigned calls, run_lap *run);
 
-struct use machine_use(void);
+/* All acts, on cells of all levels; GDAL's on the one of level 2. */
+void plan_acts(void);
 
-/* Prints the share of the machine that others had between two looks at it; `own` is this program's time. */
-void print_others(struct use before, struct use after, double own);
+/* Whether what GDAL did in a round is right; see gdal_laps.c. */
+void plan_gdal(enum act act, struct cell *cell);
+void check_gdal_round(void);
+
+/* Opens the cell of level 2 with GDAL, sees that it reads and writes what it must, and prints what is measured of it. */
+void start_gdal(void);
+
+/* Runs every lap once in each round. */
+void run_rounds(void);
+
+/* Prints the ratios of every act at level 2, the times at every level, and the parts of intake. */
+void print_acts(void);
+void print_levels(void);
+void print_parts(void);
+
+/* Cells a second that one thread and that all cores judge, one cell to a thread. */
+void print_throughput(void);
 
 #endif

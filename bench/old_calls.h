@@ -9,7 +9,7 @@
 
 #ifndef OLD_YEARLESS
 
-PLAIN_CALLS(old_dted);
+NAMED_CALLS(old_dted);
 #define OLD(call) old_dted_##call
 enum { OLD_IS_YEARLESS = false };
 

@@ -5,7 +5,7 @@
 #include <stdbool.h>
 #include <string.h>
 
-enum { LOWEST = -12000, HIGHEST = 9000, NO_ANGLE = 1000, GOOD = DTED_HEADER_BYTES, SUM_BLOCK = 256 };
+enum { LOWEST = -12000, HIGHEST = 9000, NO_ANGLE = 1000, GOOD = DTED_HEADER_BYTES };
 
 /* not `cold` too: clang then leaves calls in the judges, which makes them slower */
 #ifdef __GNUC__
@@ -37,11 +37,13 @@ static dted_answer done(void) { return hold(DTED_HOLDS_NOTHING, 0); }
 
 /* ---- numbers, high byte first ---- */
 
-static inline uint16_t be16(const uint8_t *p) {
+static inline uint16_t native16(const uint8_t *p) {
     uint16_t v;
     memcpy(&v, p, sizeof v);
-    return ntohs(v);
+    return v;
 }
+
+static inline uint16_t be16(const uint8_t *p) { return ntohs(native16(p)); }
 
 static unsigned be24(const uint8_t *p) { return (unsigned)be16(p) << 8 | p[2]; }
 static uint32_t be32(const uint8_t *p) { return (uint32_t)be16(p) << 16 | be16(p + 2); }
@@ -438,37 +440,82 @@ static dted_answer judge_headers(uint32_t year, const uint8_t *h, size_t length,
     return bad == GOOD ? done() : refuse_field(h, bad, f);
 }
 
-/* ---- columns, judged ---- */
+/* ---- sums of bytes ---- */
 
-/* Sixteen bits hold the sum of a block, which makes for more lanes in a vector. */
+/* A column is taken in parts of so many words: then sixteen bits hold each sum below, which makes for more lanes in a vector. */
+enum { PART = 256 };
+
+/* The sum of 16-bit words, whatever their byte order, and that of their high bytes. */
+struct sums {
+    uint16_t all, high;
+};
+
+static inline void add_word(struct sums *sums, uint16_t word) {
+    sums->all = (uint16_t)(sums->all + word);
+    sums->high = (uint16_t)(sums->high + (word >> 8));
+}
+
+static inline uint32_t bytes_of(struct sums sums) { return (uint32_t)(uint16_t)(sums.all - 256 * sums.high) + sums.high; }
+
 static uint32_t byte_sum(const uint8_t *p, size_t n) {
     uint32_t sum = 0;
-    for (; n >= SUM_BLOCK; n -= SUM_BLOCK, p += SUM_BLOCK) {
-        uint16_t block = 0;
-        for (int i = 0; i < SUM_BLOCK; i++)
-            block = (uint16_t)(block + p[i]);
-        sum += block;
-    }
     for (size_t i = 0; i < n; i++)
         sum += p[i];
     return sum;
 }
 
-/* 1 for a word that no cell may hold; `pass` is FFFF where voids are allowed and 0 elsewhere. 8000 is height 0 as well. */
-static inline unsigned is_bad_word(uint16_t word, uint16_t pass) {
-    return (word > HIGHEST) & ((uint16_t)(word - 0x8000) > -LOWEST) & (word != pass);
+/* ---- columns, judged ---- */
+
+/* What one pass over words finds: the sum of their bytes, the highest of them as signed numbers, and the highest once they are turned so
+ * that the other run of bad words comes last. */
+struct measure {
+    uint32_t sum;
+    int16_t highest, turned;
+};
+
+struct part {
+    struct sums sums;
+    int16_t highest, turned;
+};
+
+static inline int16_t higher(int16_t a, int16_t b) { return a > b ? a : b; }
+
+/* What is added to a word for `turned`: a void comes first then, where it is allowed. */
+static inline uint16_t turn_for(bool voids) { return (uint16_t)(0x8000 + voids); }
+
+static inline struct part measure_part(const uint8_t *words, size_t n, uint16_t turn) {
+    struct part part = {{0, 0}, INT16_MIN, INT16_MIN};
+    for (size_t i = 0; i < n; i++) {
+        uint16_t native = native16(words + 2 * i), word = ntohs(native);
+        add_word(&part.sums, native);
+        part.highest = higher(part.highest, (int16_t)word);
+        part.turned = higher(part.turned, (int16_t)(uint16_t)(word + turn));
+    }
+    return part;
 }
 
-static bool any_bad_word(const uint8_t *words, size_t posts, uint16_t pass) {
-    uint16_t bad = 0;
-    for (size_t i = 0; i < posts; i++)
-        bad = (uint16_t)(bad | is_bad_word(be16(words + 2 * i), pass));
-    return bad;
+static inline struct measure with_part(struct measure m, struct part part) {
+    return (struct measure){m.sum + bytes_of(part.sums), higher(m.highest, part.highest), higher(m.turned, part.turned)};
 }
 
-static size_t first_bad_word(const uint8_t *words, uint16_t pass) {
+/* Whole parts apart from the last one: where their length is no constant, the processor reads less far ahead. */
+static struct measure measure_words(const uint8_t *words, size_t posts, uint16_t turn) {
+    struct measure all = {0, INT16_MIN, INT16_MIN};
+    for (; posts >= PART; posts -= PART, words += 2 * PART)
+        all = with_part(all, measure_part(words, PART, turn));
+    return with_part(all, measure_part(words, posts, turn));
+}
+
+static bool has_bad_word(struct measure m, bool voids) { return m.highest > HIGHEST || m.turned > -LOWEST + voids; }
+
+/* Of a word that no cell may hold; 8000 is height 0 as well. */
+static bool is_bad_word(uint16_t word, bool voids) {
+    return word > HIGHEST && (uint16_t)(word - 0x8000) > -LOWEST && !(voids && word == 0xFFFF);
+}
+
+static size_t first_bad_word(const uint8_t *words, bool voids) {
     size_t i = 0;
-    while (!is_bad_word(be16(words + 2 * i), pass))
+    while (!is_bad_word(be16(words + 2 * i), voids))
         i++;
     return i;
 }
@@ -476,7 +523,6 @@ static size_t first_bad_word(const uint8_t *words, uint16_t pass) {
 static dted_answer judge_column(const uint8_t *cell, size_t length, const struct facts *f, unsigned number) {
     size_t base = DTED_HEADER_BYTES + number * f->column_bytes, end = f->column_bytes - 4;
     const uint8_t *column = cell + base;
-    uint16_t pass = f->voids ? 0xFFFF : 0;
     if (length < base + f->column_bytes)
         return refuse(DTED_CUT, base);
     if (column[0] != 170)
@@ -487,10 +533,11 @@ static dted_answer judge_column(const uint8_t *cell, size_t length, const struct
         return refuse(DTED_PREAMBLE, base + 4);
     if (be16(column + 6) != 0)
         return refuse(DTED_PREAMBLE, base + 6);
-    if (be32(column + end) != byte_sum(column, end))
+    struct measure words = measure_words(column + 8, f->posts, turn_for(f->voids));
+    if (be32(column + end) != byte_sum(column, 8) + words.sum)
         return refuse(DTED_CHECKSUM, base + end);
-    if (any_bad_word(column + 8, f->posts, pass))
-        return refuse(DTED_WORD, base + 8 + 2 * first_bad_word(column + 8, pass));
+    if (has_bad_word(words, f->voids))
+        return refuse(DTED_WORD, base + 8 + 2 * first_bad_word(column + 8, f->voids));
     return done();
 }
 
@@ -533,8 +580,11 @@ static bool may_hold(int64_t height, bool voids) {
     return (height >= LOWEST && height <= HIGHEST) || (voids && height == DTED_VOID);
 }
 
-/* A void, too, is its sign and its magnitude. */
-static inline uint16_t word_of(int height) { return (uint16_t)(height < 0 ? 0x8000 | -height : height); }
+/* A void, too, is its sign and its magnitude; nothing here is wider than 16 bits, which makes for more lanes in a vector. */
+static inline uint16_t word_of(int16_t height) {
+    uint16_t negative = (uint16_t)(0x8000 - (uint16_t)height);
+    return height < 0 ? negative : (uint16_t)height;
+}
 
 dted_answer plain_edit(uint32_t year, uint8_t *cell, size_t length, uint64_t column, uint64_t post, int64_t height) {
     struct facts f;
@@ -546,7 +596,7 @@ dted_answer plain_edit(uint32_t year, uint8_t *cell, size_t length, uint64_t col
     uint8_t *start = cell + DTED_HEADER_BYTES + column * f.column_bytes, *word = start + 8 + 2 * post;
     uint8_t *check = start + f.column_bytes - 4;
     uint32_t rest = be32(check) - word[0] - word[1];
-    put16(word, word_of((int)height));
+    put16(word, word_of((int16_t)height));
     put32(check, rest + word[0] + word[1]);
     return done();
 }
@@ -567,15 +617,26 @@ static unsigned bad_item(const int64_t *items) {
 
 static inline int16_t height_at(const uint8_t *grid, size_t i) { return (int16_t)be16(grid + 2 * i); }
 
-/* 1 for a height that may not be written; `pass` is the void where voids are allowed and 0 elsewhere. */
-static inline unsigned is_bad_height(int16_t height, int16_t pass) {
+/* `pass` is the void where voids are allowed and 0 elsewhere. */
+static inline bool is_bad_height(int16_t height, int16_t pass) {
     return ((height < LOWEST) | (height > HIGHEST)) & (height != pass);
 }
 
-static bool any_bad_height(const uint8_t *grid, size_t posts, int16_t pass) {
+/* Where no void is allowed the highest and the lowest tell it. */
+static bool any_bad_height(const uint8_t *grid, size_t posts) {
+    int16_t highest = INT16_MIN, lowest = INT16_MAX;
+    for (size_t i = 0; i < posts; i++) {
+        int16_t height = height_at(grid, i);
+        highest = higher(highest, height);
+        lowest = height < lowest ? height : lowest;
+    }
+    return highest > HIGHEST || lowest < LOWEST;
+}
+
+static bool any_bad_height_or_void(const uint8_t *grid, size_t posts) {
     uint16_t bad = 0;
     for (size_t i = 0; i < posts; i++)
-        bad = (uint16_t)(bad | is_bad_height(height_at(grid, i), pass));
+        bad = (uint16_t)(bad | is_bad_height(height_at(grid, i), DTED_VOID));
     return bad;
 }
 
@@ -583,22 +644,41 @@ static bool any_bad_height(const uint8_t *grid, size_t posts, int16_t pass) {
 static size_t first_bad_height(const uint8_t *grid, const struct facts *f) {
     int16_t pass = f->voids ? DTED_VOID : 0;
     size_t i = 0, posts = (size_t)f->columns * f->posts;
-    while (i < posts && !any_bad_height(grid + 2 * i, f->posts, pass))
+    while (i < posts && !(f->voids ? any_bad_height_or_void : any_bad_height)(grid + 2 * i, f->posts))
         i += f->posts;
     while (i < posts && !is_bad_height(height_at(grid, i), pass))
         i++;
     return i;
 }
 
+/* The sums are put where a pointer says: where they are returned, clang makes no vectors. */
+static inline void put_part(uint8_t *restrict out, const uint8_t *restrict grid, size_t n, struct sums *restrict put) {
+    struct sums sums = {0, 0};
+    for (size_t i = 0; i < n; i++) {
+        put16(out + 2 * i, word_of(height_at(grid, i)));
+        add_word(&sums, native16(out + 2 * i));
+    }
+    *put = sums;
+}
+
+/* Puts words, and gives the sum of their bytes. */
+static uint32_t put_words(uint8_t *restrict out, const uint8_t *restrict grid, size_t posts) {
+    struct sums put;
+    uint32_t sum = 0;
+    for (; posts >= PART; posts -= PART, out += 2 * PART, grid += 2 * PART) {
+        put_part(out, grid, PART, &put);
+        sum += bytes_of(put);
+    }
+    put_part(out, grid, posts, &put);
+    return sum + bytes_of(put);
+}
+
 static void put_column(uint8_t *restrict out, const uint8_t *restrict grid, unsigned posts, unsigned number) {
-    size_t end = 8 + 2 * (size_t)posts;
     memset(out, 0, 8);
     out[0] = 170;
     put16(out + 2, (uint16_t)number);
     put16(out + 4, (uint16_t)number);
-    for (size_t i = 0; i < posts; i++)
-        put16(out + 8 + 2 * i, word_of(height_at(grid, i)));
-    put32(out + end, byte_sum(out, end));
+    put32(out + 8 + 2 * (size_t)posts, byte_sum(out, 8) + put_words(out + 8, grid, posts));
 }
 
 dted_answer plain_write(uint32_t year, uint8_t *out, size_t room, const int64_t *items, const uint8_t *grid, size_t bytes) {

@@ -4,14 +4,20 @@
 
 #include "dted.h"
 
-/* The calls, and the compiler that made them, under names that begin with a word of one's choice. */
-#define PLAIN_CALLS(who) \
+/* The calls under names that begin with a word of one's choice, and the compiler that made them. */
+#define NAMED_CALLS(who) \
     dted_answer who##_intake(uint32_t year, const uint8_t *cell, size_t length); \
     dted_answer who##_post(uint32_t year, const uint8_t *cell, size_t length, uint64_t column, uint64_t post); \
     dted_answer who##_edit(uint32_t year, uint8_t *cell, size_t length, uint64_t column, uint64_t post, int64_t height); \
     dted_answer who##_write(uint32_t year, uint8_t *out, size_t room, const int64_t *items, const uint8_t *grid, size_t bytes); \
     const char *who##_compiler(void)
 
-PLAIN_CALLS(plain);
+NAMED_CALLS(plain);
+
+/* plain.c once more: for x86-64-v3, and by a second compiler for both processors; and the library for x86-64-v3. */
+NAMED_CALLS(plain_v3);
+NAMED_CALLS(second);
+NAMED_CALLS(second_v3);
+NAMED_CALLS(v3_dted);
 
 #endif

@@ -1,12 +1,12 @@
-/* report.c - prints what the bench timed: see laps.h. */
-#define _POSIX_C_SOURCE 200809L
+/* report.c - prints what the bench timed: see laps.h. bench/draw reads it: cells of a row are two blanks or more apart. */
 #include "laps.h"
 
 #include <math.h>
 #include <stdio.h>
 #include <stdlib.h>
 #include <string.h>
-#include <unistd.h>
+
+static const char *const act_names[ACTS] = {"intake", "one post", "one edit", "whole write", "headers alone", "one column"};
 
 struct spread {
     double low, middle, high; /* quartiles */
@@ -17,103 +17,118 @@ static int by_size(const void *a, const void *b) {
     return (x > y) - (x < y);
 }
 
-/* Of a lap's times, or of their ratios to another lap's in the same rounds. */
-static struct spread spread_of(const struct lap *lap, const struct lap *by) {
-    double value[ROUNDS];
-    for (int i = 0; i < ROUNDS; i++)
-        value[i] = by ? lap->seconds[i] / by->seconds[i] : lap->seconds[i];
+static struct spread spread_of(double value[ROUNDS]) {
     qsort(value, ROUNDS, sizeof *value, by_size);
     return (struct spread){value[ROUNDS / 4], value[ROUNDS / 2], value[ROUNDS - 1 - ROUNDS / 4]};
 }
 
-static const struct lap *find(const struct lap *laps, size_t count, const char *act, const char *who) {
-    for (size_t i = 0; i < count; i++)
-        if (strcmp(laps[i].act, act) == 0 && strcmp(laps[i].who, who) == 0)
-            return &laps[i];
-    fprintf(stderr, "bench: nothing was timed for %s by %s\n", act, who);
-    exit(1);
+/* Of a lap's times, in microseconds. */
+static double median(const struct lap *lap) {
+    double value[ROUNDS];
+    for (int i = 0; i < ROUNDS; i++)
+        value[i] = 1e6 * lap->seconds[i];
+    return spread_of(value).middle;
 }
 
-static double median(const struct lap *lap) { return 1e6 * spread_of(lap, NULL).middle; }
+/* Of the ratios of two laps' times in the same rounds. */
+static struct spread ratio(const struct lap *lap, const struct lap *to) {
+    double value[ROUNDS];
+    for (int i = 0; i < ROUNDS; i++)
+        value[i] = lap->seconds[i] / to->seconds[i];
+    return spread_of(value);
+}
+
+/* The first lap of that act on the same cell and for the same processor whose maker's name begins so, or null. */
+static const struct lap *beside(const struct lap *lap, enum act act, const char *who) {
+    for (const struct lap *other = laps; other < laps + lap_count; other++)
+        if (other->act == act && other->cell == lap->cell && other->cpu == lap->cpu && strncmp(other->who, who, strlen(who)) == 0)
+            return other;
+    return NULL;
+}
+
+/* Plain C by the first compiler. */
+static const struct lap *plain_beside(const struct lap *lap) { return beside(lap, lap->act, "plain C"); }
 
 /* How many places after the point a time is given with. */
 static int places(double time) { return fabs(time) < 1 ? 3 : fabs(time) < 100 ? 2 : 0; }
 
-void print_acts(const struct lap *laps, size_t count) {
-    printf("\n%-8s  %-16s  %10s  %17s  %12s  %s\n", "act", "who", "of plain C", "of read-only pass", "microseconds", "middle half");
-    for (const struct lap *lap = laps; lap < laps + count; lap++) {
-        if (strncmp(lap->act, STEP, strlen(STEP)) == 0)
+static bool is_at(const struct lap *lap, int level) { return lap->cell == &cells[level] && lap->act != ONE_COLUMN; }
+
+static void print_act(const struct lap *lap) {
+    const struct lap *pass = beside(lap, lap->act, "read-only pass");
+    struct spread plain = ratio(lap, plain_beside(lap));
+    double time = median(lap);
+    char half[64], read[32] = "-";
+    snprintf(half, sizeof half, "%.2f to %.2f", plain.low, plain.high);
+    if (pass)
+        snprintf(read, sizeof read, "%.2f", ratio(lap, pass).middle);
+    printf("%-13s  %-14s  %-9s  %10.2f  %14s  %17s  %12.*f\n", act_names[lap->act], lap->who, cpu_name(lap->cpu), plain.middle, half,
+           read, places(time), time);
+}
+
+void print_acts(void) {
+    printf("\n%-13s  %-14s  %-9s  %10s  %14s  %17s  %12s\n", "act", "by", "for", "of plain C", "middle half", "of read-only pass",
+           "microseconds");
+    for (const struct lap *lap = laps; lap < laps + lap_count; lap++)
+        if (is_at(lap, LEVELS - 1))
+            print_act(lap);
+}
+
+/* ---- growth with the cell ---- */
+
+/* The same lap on the cell of another level. */
+static const struct lap *at_level(const struct lap *lap, int level) {
+    const struct lap moved = {.cell = &cells[level], .cpu = lap->cpu};
+    return beside(&moved, lap->act, lap->who);
+}
+
+void print_levels(void) {
+    printf("\n%-13s  %-14s  %-9s", "at level", "by", "for");
+    for (int level = 0; level < LEVELS; level++)
+        printf("  %d: microseconds  %d: of plain C", level, level);
+    printf("\n");
+    for (const struct lap *lap = laps; lap < laps + lap_count; lap++) {
+        if (!is_at(lap, 0))
             continue;
-        struct spread plain = spread_of(lap, find(laps, count, lap->act, "plain C"));
-        struct spread read = spread_of(lap, find(laps, count, lap->act, "read-only pass"));
-        double time = median(lap);
-        printf("%-8s  %-16s  %10.2f  %17.2f  %12.*f  %.2f to %.2f\n", lap->act, lap->who, plain.middle, read.middle, places(time), time,
-               plain.low, plain.high);
+        printf("%-13s  %-14s  %-9s", act_names[lap->act], lap->who, cpu_name(lap->cpu));
+        for (int level = 0; level < LEVELS; level++) {
+            const struct lap *there = at_level(lap, level);
+            double time = median(there);
+            printf("  %15.*f  %13.2f", places(time), time, ratio(there, plain_beside(there)).middle);
+        }
+        printf("\n");
     }
 }
 
 /* ---- the parts of intake ---- */
 
-/* The laps of one set of calls that tell intake's parts. */
-struct steps {
-    const struct lap *all, *headers, *sum, *words;
-    double columns;
-};
+enum part { OF_HEADERS, OF_COLUMNS, REST, ALL, PARTS };
 
-enum part { HEADERS, SUMS, WORDS, REST, ALL, PARTS };
-
-/* Intakes that are refused one step later than each other differ by that step; what a whole intake takes beyond its headers and
- * its columns' two steps is memory that is waited for, since the early refusals find their column in the cache. */
-static double part_in(const struct steps *steps, enum part part, int round) {
-    double headers = steps->headers->seconds[round], all = steps->all->seconds[round];
-    double sums = (steps->sum->seconds[round] - headers) * steps->columns;
-    double words = (steps->words->seconds[round] - steps->sum->seconds[round]) * steps->columns;
-    const double value[PARTS] = {headers, sums, words, all - headers - sums - words, all};
+/* A cell that is cut after one column takes the headers and that column, found in the cache; what a whole intake takes beyond the
+ * headers and that for each column is memory that is waited for. */
+static double part_in(const struct lap *all, enum part part, int round) {
+    double whole = all->seconds[round], headers = beside(all, HEADERS, all->who)->seconds[round];
+    double columns = (beside(all, ONE_COLUMN, all->who)->seconds[round] - headers) * (double)all->cell->columns;
+    const double value[PARTS] = {headers, columns, whole - headers - columns, whole};
     return value[part];
 }
 
-static void print_part(const char *who, const struct steps *steps, enum part part) {
-    static const char *const names[PARTS] = {"headers", "byte sums", "words", "rest", "all"};
-    struct lap time, share;
+static void print_part(const struct lap *all, enum part part) {
+    static const char *const names[PARTS] = {"headers", "columns, from the cache", "rest", "all"};
+    double time[ROUNDS], share[ROUNDS];
     for (int i = 0; i < ROUNDS; i++) {
-        time.seconds[i] = part_in(steps, part, i);
-        share.seconds[i] = time.seconds[i] / steps->all->seconds[i];
+        time[i] = 1e6 * part_in(all, part, i);
+        share[i] = 100 * part_in(all, part, i) / all->seconds[i];
     }
-    double middle = median(&time);
-    printf("%-16s  %-9s  %12.*f  %7.1f%%\n", who, names[part], places(middle), middle, 100 * spread_of(&share, NULL).middle);
+    double middle = spread_of(time).middle;
+    printf("%-14s  %-9s  %-23s  %12.*f  %7.1f%%\n", all->who, cpu_name(all->cpu), names[part], places(middle), middle,
+           spread_of(share).middle);
 }
 
-void print_parts(const struct lap *laps, size_t count, const struct calls *sets, size_t set_count, size_t columns) {
-    printf("\n%-16s  %-9s  %12s  %s\n", "intake by", "part", "microseconds", "share");
-    for (size_t i = 0; i < set_count; i++) {
-        const char *who = sets[i].name;
-        struct steps steps = {find(laps, count, "intake", who), find(laps, count, STEP "headers", who), find(laps, count, STEP "sum", who),
-                              find(laps, count, STEP "words", who), (double)columns};
-        for (enum part part = HEADERS; part < PARTS; part++)
-            print_part(who, &steps, part);
-    }
-}
-
-/* ---- what others had of the machine ---- */
-
-struct use machine_use(void) {
-    double part[8] = {0};
-    FILE *file = fopen("/proc/stat", "r");
-    struct use use = {0, 0};
-    if (!file)
-        return use;
-    if (fscanf(file, "cpu %lf %lf %lf %lf %lf %lf %lf %lf", &part[0], &part[1], &part[2], &part[3], &part[4], &part[5], &part[6],
-               &part[7]) == 8)
-        for (int i = 0; i < 8; i++) {
-            use.all += part[i] / (double)sysconf(_SC_CLK_TCK);
-            use.busy += i == 3 || i == 4 ? 0 : part[i] / (double)sysconf(_SC_CLK_TCK); /* the fourth and fifth are idle */
-        }
-    fclose(file);
-    return use;
-}
-
-void print_others(struct use before, struct use after, double own) {
-    double all = after.all - before.all, others = after.busy - before.busy - own;
-    if (all > 0)
-        printf("\nothers meanwhile: %.0f%% of the machine's processor time\n", others > 0 ? 100 * others / all : 0);
+void print_parts(void) {
+    printf("\n%-14s  %-9s  %-23s  %12s  %8s\n", "intake by", "for", "part", "microseconds", "share");
+    for (const struct lap *lap = laps; lap < laps + lap_count; lap++)
+        if (lap->act == INTAKE && lap->with && is_at(lap, LEVELS - 1))
+            for (enum part part = OF_HEADERS; part < PARTS; part++)
+                print_part(lap, part);
 }

@@ -24,7 +24,7 @@ static size_t length, columns, column_bytes;
 static uint64_t below(uint64_t most) { return next_random(&seed) % most; }
 
 static void differ(const char *what) {
-    fprintf(stderr, "%s and %s differ: %s\n", one->name, two->name, what);
+    fprintf(stderr, "%s and %s for %s differ: %s\n", one->who, two->who, cpu_name(two->cpu), what);
     exit(1);
 }
 
@@ -403,6 +403,73 @@ static void compare_fronts(void) {
     }
 }
 
+/* ---- every place in a column, at every level ---- */
+
+static void put_word(uint8_t *at, unsigned word) {
+    at[0] = (uint8_t)(word >> 8);
+    at[1] = (uint8_t)word;
+}
+
+/* Some word that may stand in a column; 8000 only where it is tried. */
+static unsigned good_word(void) {
+    static const unsigned edges[] = {0x2328, 0xAEE0, 0x00FF, 0x22FF, 0xADFF, 0x8001, 0, 0x8000};
+    if (below(4))
+        return 1 + (unsigned)below(9000) + (below(2) ? 0x8000 : 0);
+    return edges[below(negative_zeros ? 8 : 7)];
+}
+
+/* A word changed, with the checksum that is then right or with the one before, and back again. */
+static void compare_word(uint8_t *front, size_t bytes, size_t post, unsigned word, bool summed) {
+    uint8_t *column = front + DTED_HEADER_BYTES, *at = column + DTED_PREAMBLE_BYTES + 2 * post;
+    unsigned was = (unsigned)at[0] << 8 | at[1];
+    put_word(at, word);
+    if (summed)
+        put_sum(column);
+    same_intake(front, bytes);
+    same_post(front, bytes, 0, post);
+    put_word(at, was);
+    put_sum(column);
+}
+
+/* Headers and one column of good words; at each post in turn a bad word, a good one with a wrong sum, and a good one. */
+static void compare_posts(const uint8_t *headers, unsigned level) {
+    static const unsigned bad[] = {0x2329, 0x7FFF, 0xAEE1, 0xFFFE, 0xFFFF};
+    static uint8_t front[DTED_HEADER_BYTES + DTED_LONGEST_COLUMN];
+    size_t bytes = make_front(front, headers, level), posts = (column_bytes - 12) / 2;
+    uint8_t *words = front + DTED_HEADER_BYTES + DTED_PREAMBLE_BYTES;
+    for (size_t i = 0; i < posts; i++)
+        put_word(words + 2 * i, good_word());
+    put_sum(front + DTED_HEADER_BYTES);
+    for (size_t i = 0; i < posts; i++) {
+        known_year();
+        compare_word(front, bytes, i, bad[below(5)], true);
+        compare_word(front, bytes, i, ((unsigned)words[2 * i] << 8 | words[2 * i + 1]) ^ (below(2) ? 1 : 0x100), false);
+        compare_word(front, bytes, i, good_word(), true);
+    }
+}
+
+/* Cells of level 1, which have whole parts and a rest: of one height throughout and of many, and with one that is not allowed. */
+static void compare_wide_writes(void) {
+    static const int heights[] = {255, -11775, 9000, -12000, 0, DTED_VOID};
+    dted_answer laid = dted_grid(1, 0);
+    size_t posts = dted_columns(laid) * dted_posts(laid), bytes = dted_cell_length(laid);
+    uint8_t *wide = malloc(2 * posts), *a = calloc(bytes, 1), *b = calloc(bytes, 1);
+    if (!wide || !a || !b)
+        differ("no memory");
+    for (int turn = 0; turn < 24; turn++) {
+        some_items(0);
+        items[DTED_LEVEL] = 1;
+        known_year();
+        for (size_t i = 0; i < posts; i++)
+            dted_put_height(wide + 2 * i, turn < 6 ? heights[turn] : good_height(items[DTED_PARTIAL] != 0 && year == 1));
+        if (turn % 3 == 2)
+            dted_put_height(wide + 2 * below(posts), some_height());
+        same(one->write(year, a, bytes, items, wide, 2 * posts), two->write(year, b, bytes, items, wide, 2 * posts), "write");
+        same_bytes(a, b, bytes, "written bytes");
+    }
+    free(wide), free(a), free(b);
+}
+
 /* ---- the large cell ---- */
 
 /* Its first column all void, which has the largest sum, and the cell partial: at level 2 that is good in both years. */
@@ -446,11 +513,10 @@ static void check_told(void) {
     }
 }
 
-size_t compare(const struct calls *a, const struct calls *b, const uint8_t *large, uint8_t *spare, size_t bytes,
-               bool with_negative_zeros) {
+size_t compare(const struct calls *a, const struct calls *b, const uint8_t *large, uint8_t *spare, size_t bytes) {
     one = a;
     two = b;
-    negative_zeros = with_negative_zeros;
+    negative_zeros = !a->older && !b->older;
     years = !a->yearless && !b->yearless;
     compared = 0;
     memset(told, 0, sizeof told);
@@ -460,6 +526,9 @@ size_t compare(const struct calls *a, const struct calls *b, const uint8_t *larg
     compare_fields();
     for (int i = 0; i < 10; i++)
         compare_fronts();
+    for (unsigned i = 0; i < 2 * LEVELS; i++)
+        compare_posts(kept[below(KEPT / LEVELS) * LEVELS + i % LEVELS], i % LEVELS);
+    compare_wide_writes();
     for (int latitude = -90; latitude <= 89; latitude++) {
         make_small(latitude);
         if (latitude % 20 == 0)

@@ -5,7 +5,7 @@
 mkdir "$work/u" && touch "$work/u/bin"
 bad 'uninstall from a folder with a blank' "PREFIX may have no blank" in_tree make uninstall PREFIX="$work/u/bin b"
 good 'a file with the first half of its name is still there' [ -e "$work/u/bin" ]
-for name in PREFIX BINDIR LIBDIR INCLUDEDIR MANDIR DESTDIR ARCHIVE INTAKE DIST CELL CPU MACHINE; do
+for name in PREFIX BINDIR LIBDIR INCLUDEDIR MANDIR DESTDIR ARCHIVE ARCHIVE_V3 INTAKE DIST CELL CPU MACHINE; do
     bad "a blank in $name" "$name may have no blank" in_tree make -n uninstall "$name=/u b"
 done
 for sign in '&' '|' ';' '<' '>' '(' ')' '[' ']' '{' '}' '*' '?' '%' '\#' '$$' \\ '"' "'" '`'; do

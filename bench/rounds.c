@@ -1,0 +1,57 @@
+/* rounds.c - runs the laps: every one once in each round, those of one act and one cell next to each other and in another order each
+ * time, so that a drift of the machine hits all alike. Directly before it is timed a lap is run untimed, so that it finds its bytes as it
+ * leaves them itself, and not between the cache lines of the lap before. */
+#define _POSIX_C_SOURCE 200809L
+#include "laps.h"
+
+#include <string.h>
+#include <time.h>
+
+static double now(void) {
+    struct timespec t;
+    clock_gettime(CLOCK_THREAD_CPUTIME_ID, &t);
+    return (double)t.tv_sec + (double)t.tv_nsec * 1e-9;
+}
+
+static void run_once(struct lap *lap, unsigned round) {
+    struct cell *cell = lap->cell;
+    lap->run(lap, round);
+    double start = now();
+    lap->gave = lap->run(lap, round);
+    lap->seconds[round] = (now() - start) / lap->calls;
+    if (lap->act == WRITE && lap->with && memcmp(cell->out, cell->bytes, cell->length) != 0)
+        stop("a written cell differs");
+}
+
+static bool are_alike(const struct lap *a, const struct lap *b) { return a->run == b->run && a->act == b->act && a->cell == b->cell; }
+
+/* Laps that do the same gave the same, and the edited cells are equal. */
+static void check_round(void) {
+    for (size_t i = 1; i < lap_count; i++)
+        if (are_alike(&laps[i], &laps[i - 1]) && laps[i].gave != laps[i - 1].gave)
+            stop("answers differ in a measured round");
+    for (int level = 0; level < LEVELS; level++)
+        for (size_t i = 1; i < set_count; i++)
+            if (memcmp(cells[level].edited[0], cells[level].edited[i], cells[level].length) != 0)
+                stop("edited cells differ");
+    check_gdal_round();
+}
+
+/* The number of laps from this one on that are of one act on one cell. */
+static size_t act_size(size_t from) {
+    size_t to = from;
+    while (to < lap_count && laps[to].act == laps[from].act && laps[to].cell == laps[from].cell)
+        to++;
+    return to - from;
+}
+
+void run_rounds(void) {
+    for (unsigned round = 0; round < ROUNDS; round++) {
+        for (size_t from = 0, count; from < lap_count; from += count) {
+            count = act_size(from);
+            for (size_t i = 0; i < count; i++)
+                run_once(&laps[from + (i + round) % count], round);
+        }
+        check_round();
+    }
+}
