@@ -205,7 +205,7 @@ BENCH_FLAGS := -std=c11 -Wall -Wextra -Wpedantic -Werror -O3 -Iinclude
 # make bench OLD=path: beside another archive of the library, in one run; with OLD_YEARLESS=yes beside one of before 0.5.0, whose
 # calls name no rule year
 BENCH = target/bench$(CPU:%=-%)$(if $(OLD),-beside$(if $(OLD_YEARLESS),-yearless))
-BENCH_PARTS := bench sets cell acts rounds report threads others same gdal_calls gdal_laps limit plain $(if $(SECOND_CC),second)
+BENCH_PARTS := bench sets cell acts rounds report threads others same gdal_calls gdal_laps limit plain passes $(if $(SECOND_CC),second)
 ifeq ($(shell uname -m),x86_64)
 BENCH_CPU := $(or $(CPU),x86-64)
 BENCH_ARCHIVE := $(LINKED)
@@ -216,7 +216,7 @@ endif
 # where CPU names none, all of it for x86-64-v3 too; beside ARCHIVE=path the library for it is ARCHIVE_V3=path, or left out
 ifeq ($(BENCH_CPU),x86-64)
 V3 := -march=x86-64-v3
-BENCH_PARTS += limit_v3 plain_v3 $(if $(SECOND_CC),second_v3)
+BENCH_PARTS += limit_v3 plain_v3 passes_v3 $(if $(SECOND_CC),second_v3)
 ARCHIVE_V3 ?= $(if $(ARCHIVE),,target/lib/libdted-x86-64-v3.a)
 endif
 BENCH_WITH = -DBASE_CPU=$(BENCH_CPU) $(if $(V3),-DWITH_V3) $(if $(ARCHIVE_V3),-DWITH_V3_LIBRARY) $(if $(SECOND_CC),-DWITH_SECOND) \
@@ -255,6 +255,12 @@ $(BENCH)/second_v3.o: bench/plain.c $(BENCH_NEEDS) $(BENCH)/words
 
 $(BENCH)/plain_v3.o: bench/plain.c $(BENCH_NEEDS) $(BENCH)/words
 	$(BENCH_CC) $(V3) $(PLAIN_AGAIN)
+
+$(BENCH)/passes.o: bench/plain.c $(BENCH_NEEDS) $(BENCH)/words
+	$(BENCH_CC) $(CPU:%=-march=%) -DIN_PASSES $(PLAIN_AGAIN)
+
+$(BENCH)/passes_v3.o: bench/plain.c $(BENCH_NEEDS) $(BENCH)/words
+	$(BENCH_CC) $(V3) -DIN_PASSES $(PLAIN_AGAIN)
 
 $(BENCH)/limit_v3.o: bench/limit.c $(BENCH_NEEDS) $(BENCH)/words
 	$(BENCH_CC) $(V3) $(BENCH_FLAGS) -Dread_pass=read_pass_v3 -c $< -o $@

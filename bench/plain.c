@@ -498,6 +498,29 @@ static inline struct measure with_part(struct measure m, struct part part) {
     return (struct measure){m.sum + bytes_of(part.sums), higher(m.highest, part.highest), higher(m.turned, part.turned)};
 }
 
+#ifdef IN_PASSES
+/* As plain C had it before 0.5.1: a pass for the sum, in blocks whose sum 16 bits hold, and one more for the words. */
+static uint32_t sum_in_blocks(const uint8_t *p, size_t n) {
+    uint32_t sum = 0;
+    for (; n >= PART; n -= PART, p += PART) {
+        uint16_t block = 0;
+        for (int i = 0; i < PART; i++)
+            block = (uint16_t)(block + p[i]);
+        sum += block;
+    }
+    return sum + byte_sum(p, n);
+}
+
+static struct measure measure_words(const uint8_t *words, size_t posts, uint16_t turn) {
+    uint16_t bad = 0, pass = turn == turn_for(true) ? 0xFFFF : 0;
+    uint32_t sum = sum_in_blocks(words, 2 * posts);
+    for (size_t i = 0; i < posts; i++) {
+        uint16_t word = be16(words + 2 * i);
+        bad = (uint16_t)(bad | ((word > HIGHEST) & ((uint16_t)(word - 0x8000) > -LOWEST) & (word != pass)));
+    }
+    return (struct measure){sum, bad ? INT16_MAX : 0, 0};
+}
+#else
 /* Whole parts apart from the last one: where their length is no constant, the processor reads less far ahead. */
 static struct measure measure_words(const uint8_t *words, size_t posts, uint16_t turn) {
     struct measure all = {0, INT16_MIN, INT16_MIN};
@@ -505,6 +528,7 @@ static struct measure measure_words(const uint8_t *words, size_t posts, uint16_t
         all = with_part(all, measure_part(words, PART, turn));
     return with_part(all, measure_part(words, posts, turn));
 }
+#endif
 
 static bool has_bad_word(struct measure m, bool voids) { return m.highest > HIGHEST || m.turned > -LOWEST + voids; }
 
@@ -662,6 +686,13 @@ static inline void put_part(uint8_t *restrict out, const uint8_t *restrict grid,
 }
 
 /* Puts words, and gives the sum of their bytes. */
+#ifdef IN_PASSES
+static uint32_t put_words(uint8_t *restrict out, const uint8_t *restrict grid, size_t posts) {
+    for (size_t i = 0; i < posts; i++)
+        put16(out + 2 * i, word_of(height_at(grid, i)));
+    return sum_in_blocks(out, 2 * posts);
+}
+#else
 static uint32_t put_words(uint8_t *restrict out, const uint8_t *restrict grid, size_t posts) {
     struct sums put;
     uint32_t sum = 0;
@@ -672,6 +703,7 @@ static uint32_t put_words(uint8_t *restrict out, const uint8_t *restrict grid, s
     put_part(out, grid, posts, &put);
     return sum + bytes_of(put);
 }
+#endif
 
 static void put_column(uint8_t *restrict out, const uint8_t *restrict grid, unsigned posts, unsigned number) {
     memset(out, 0, 8);

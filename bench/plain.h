@@ -14,10 +14,13 @@
 
 NAMED_CALLS(plain);
 
-/* plain.c once more: for x86-64-v3, and by a second compiler for both processors; and the library for x86-64-v3. */
+/* plain.c once more: for x86-64-v3, by a second compiler for both processors, and with a column in passes as it had it before 0.5.1; and the
+ * library for x86-64-v3. */
 NAMED_CALLS(plain_v3);
 NAMED_CALLS(second);
 NAMED_CALLS(second_v3);
+NAMED_CALLS(passes);
+NAMED_CALLS(passes_v3);
 NAMED_CALLS(v3_dted);
 
 #endif

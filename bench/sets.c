@@ -53,6 +53,10 @@ void find_sets(void) {
 #if defined WITH_SECOND && defined WITH_V3
     ADD_PLAIN(second_v3, V3);
 #endif
+    add((struct calls){"in passes, gcc", BASE, CALLS(passes)});
+#ifdef WITH_V3
+    add((struct calls){"in passes, gcc", V3, CALLS(passes_v3)});
+#endif
 #ifdef WITH_OLD
     add((struct calls){"other archive", BASE, OLD(intake), OLD(post), OLD(edit), OLD(write), OLD_IS_YEARLESS, true});
 #endif

@@ -4,7 +4,7 @@
 
 #include "calls.h"
 
-enum { MOST_SETS = 8 };
+enum { MOST_SETS = 9 };
 
 /* The library's first, then plain C by the first compiler for each processor; find_sets fills them. */
 extern struct calls sets[MOST_SETS];
