@@ -30,15 +30,14 @@ extern size_t lap_count;
 /* One more lap, by no set of calls. */
 struct lap *plan(enum act act, struct cell *cell, const char *who, enum cpu cpu, unsigned calls, run_lap *run);
 
-/* All acts, on cells of all levels; GDAL's on the one of level 2. */
+/* All acts, on cells of all levels. */
 void plan_acts(void);
 
-/* Whether what GDAL did in a round is right; see gdal_laps.c. */
+/* GDAL on the cell of level 2: sees that it reads and writes what it must, and prints what is measured of it; plans its lap of an act on
+ * a cell, where it has one; and sees that a round was right. */
+void start_gdal(void);
 void plan_gdal(enum act act, struct cell *cell);
 void check_gdal_round(void);
-
-/* Opens the cell of level 2 with GDAL, sees that it reads and writes what it must, and prints what is measured of it. */
-void start_gdal(void);
 
 /* Runs every lap once in each round. */
 void run_rounds(void);

@@ -71,7 +71,7 @@ void print_compilers(void) {
 #endif
     printf("\n");
 #ifndef WITH_V3
-    printf("x86-64-v3: left out, the machine is another one\n");
+    printf("x86-64-v3: left out, all is for %s alone\n", cpu_name(BASE));
 #else
     if (!runs(V3))
         printf("x86-64-v3: left out, this processor does not run it\n");
