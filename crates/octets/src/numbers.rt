@@ -22,6 +22,7 @@ fn wide16(x: u8) -> u16
 // Two bytes, the low one first, as the machine has them: by itself, so that a compiler makes one load of the two before it swaps them.
 pub fn low_first(s: &[u8], at: usize) -> u16
     requires { ⌜ at + 2 ≤ length (now s) ⌝ }
+    ensures { λ r. ⌜ r ≡ getD (now (s .entry)) at 0 + getD (now (s .entry)) (at + 1) 0 * 256 ⌝ }
     ensures { λ r. ⌜ (r % 256 ≡ getD (now (s .entry)) at 0) × (r / 256 ≡ getD (now (s .entry)) (at + 1) 0) ⌝ }
 {
     wide16(s[at]) + wide16(s[at + 1]) * 256

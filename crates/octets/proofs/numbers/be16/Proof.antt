@@ -15,7 +15,7 @@ returns : tie.Need-returns
 returns c =
     let a = c .before .before .before .args in
     let read = c .before .low-first .ensures in
-    c .swapped .ensures ∙ swapped-number (a .s .now) (a .at) _ (read .0) (read .1)
+    c .swapped .ensures ∙ swapped-number (a .s .now) (a .at) _ (read .1 .0) (read .1 .1)
 
 pub be16-spec : {M : Type 1} → statement M
 be16-spec = tie.close (tie.spec low-first-requires swapped-requires returns)

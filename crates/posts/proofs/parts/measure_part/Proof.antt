@@ -112,8 +112,8 @@ loop-again c =
       kept = omega arith;
       high-bytes = omega (arith, l .inv .high-bytes);
       low-bytes = rw lows (omega (arith, l .inv .low-bytes));
-      summed = rw (on, lows) (omega (arith, l .inv .summed, sum-two (a .s .now) at (omega arith), x .ensures .0, x .ensures .1));
-      left = word-on (a .voids) (a .s .now) at (a .at + 2 * (l .i + 1)) (l .i) (a .n) (w .result) high _ deep _ (omega arith) on (w .ensures ∙ swapped-number (a .s .now) at (x .result) (x .ensures .0) (x .ensures .1)) (omega arith) up down ∙ l .inv .left;
+      summed = rw (on, lows) (omega (arith, l .inv .summed, sum-two (a .s .now) at (omega arith), x .ensures .1 .0, x .ensures .1 .1));
+      left = word-on (a .voids) (a .s .now) at (a .at + 2 * (l .i + 1)) (l .i) (a .n) (w .result) high _ deep _ (omega arith) on (w .ensures ∙ swapped-number (a .s .now) at (x .result) (x .ensures .1 .0) (x .ensures .1 .1)) (omega arith) up down ∙ l .inv .left;
     }
 
 bytes-of-requires : tie.Need-bytes-of-requires Inv-loop μ-loop
