@@ -9,11 +9,11 @@ ghost use Rattle.columns.specs.Column.{sumAt};
 use crate::places::word_at;
 use octets::choices::both;
 use posts::parts::MOST;
-use posts::parts::Part;
+use posts::parts::Measured;
 use posts::parts::measure_part;
 
 // The preamble, as four words of which the sum alone counts, then the whole parts and the rest of the words.
-pub fn measure(column: &[u8], posts: usize, voids: bool) -> Part
+pub fn measure(column: &[u8], posts: usize, voids: bool) -> Measured
     requires { ⌜ Full (now column) posts ⌝ }
     ensures { λ r. ⌜ r .sum ≡ sumOf (take (sumAt posts) (now (column .entry))) ⌝ }
     ensures { λ r. ⌜ r .allowed ≡ wordsAllowed voids (now (column .entry)) 8 posts ⌝ }
@@ -29,14 +29,14 @@ pub fn measure(column: &[u8], posts: usize, voids: bool) -> Part
         i += MOST;
     }
     let rest = measure_part(column, word_at(i), posts - i, voids);
-    Part {
+    Measured {
         sum: total + rest.sum,
         allowed: both(allowed, rest.allowed),
     }
 }
 
 // Where a search for a word that is not allowed starts: after the last word, where there is none such.
-pub fn search_from(measured: Part, posts: usize) -> usize
+pub fn search_from(measured: Measured, posts: usize) -> usize
     ensures { λ r. ⌜ r ≡ pick (measured .allowed) posts 0 ⌝ }
 {
     if measured.allowed { posts } else { 0 }

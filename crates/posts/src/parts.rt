@@ -17,8 +17,8 @@ use std::num::wrapping_add_u16;
 // How many words a part has at most: 16 bits hold the sum of their high bytes, and that of their low bytes.
 pub const MOST: usize = 256;
 
-// What a part of a column sums up to, and whether each of its words is allowed.
-pub struct Part {
+// What a part of a column, or all of it, sums up to, and whether each of its words is allowed.
+pub struct Measured {
     pub sum: u32,
     pub allowed: bool,
 }
@@ -46,7 +46,7 @@ fn are_allowed(highest: i16, deepest: i16, voids: bool) -> bool
 
 // At most so many words from `at` on; a call with this very number is a loop of known length. Bytes are summed in the order that they were read
 // in, since a sum does not mind it.
-pub fn measure_part(s: &[u8], at: usize, n: usize, voids: bool) -> Part
+pub fn measure_part(s: &[u8], at: usize, n: usize, voids: bool) -> Measured
     requires { ⌜ FewWords (now s) at n ⌝ }
     ensures { λ r. ⌜ (r .sum ≡ sumOf (take (2 * n) (drop at (now (s .entry))))) × (r .sum ≤ 510 * n) ⌝ }
     ensures { λ r. ⌜ r .allowed ≡ wordsAllowed voids (now (s .entry)) at n ⌝ }
@@ -66,7 +66,7 @@ pub fn measure_part(s: &[u8], at: usize, n: usize, voids: bool) -> Part
         highs += read / 256;
         i += 1;
     }
-    Part {
+    Measured {
         sum: bytes_of(words, highs),
         allowed: are_allowed(highest, deepest, voids),
     }
