@@ -106,8 +106,11 @@ struct lap *plan(enum act act, struct cell *cell, const char *who, enum cpu cpu,
 }
 
 static void plan_sets(enum act act, struct cell *cell, unsigned calls, run_lap *run) {
-    for (size_t i = 0; i < set_count; i++)
+    for (size_t i = 0; i < set_count; i++) {
+        if (!sets[i].compared)
+            stop("a set of calls was not compared with the library");
         plan(act, cell, sets[i].who, sets[i].cpu, calls, run)->with = &sets[i];
+    }
 }
 
 /* For each processor that some set is for. */

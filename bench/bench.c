@@ -10,8 +10,11 @@
 static size_t compare_all(void) {
     const struct cell *large = &cells[LEVELS - 1];
     size_t compared = 0;
-    for (size_t i = 1; i < set_count; i++)
+    sets[0].compared = true;
+    for (size_t i = 1; i < set_count; i++) {
         compared += compare(&sets[0], &sets[i], large->bytes, large->out, large->length);
+        sets[i].compared = true;
+    }
     return compared;
 }
 

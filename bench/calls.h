@@ -18,6 +18,7 @@ struct calls {
     dted_answer (*write)(uint32_t year, uint8_t *out, size_t room, const int64_t *items, const uint8_t *grid, size_t bytes);
     bool yearless; /* whatever year is named, they answer as in year 1 */
     bool older;    /* of an archive that may refuse the word 8000 */
+    bool compared; /* with the library, before anything is timed */
 };
 
 /* The processor's name, as a compiler's -march has it. */

@@ -431,7 +431,7 @@ static void compare_word(uint8_t *front, size_t bytes, size_t post, unsigned wor
     put_sum(column);
 }
 
-/* Headers and one column of good words; at each post in turn a bad word, a good one with a wrong sum, and a good one. */
+/* Headers and one column of good words; at each post in turn every bad word and void, a good one with a wrong sum, and a good one. */
 static void compare_posts(const uint8_t *headers, unsigned level) {
     static const unsigned bad[] = {0x2329, 0x7FFF, 0xAEE1, 0xFFFE, 0xFFFF};
     static uint8_t front[DTED_HEADER_BYTES + DTED_LONGEST_COLUMN];
@@ -442,31 +442,45 @@ static void compare_posts(const uint8_t *headers, unsigned level) {
     put_sum(front + DTED_HEADER_BYTES);
     for (size_t i = 0; i < posts; i++) {
         known_year();
-        compare_word(front, bytes, i, bad[below(5)], true);
+        for (size_t k = 0; k < sizeof bad / sizeof *bad; k++)
+            compare_word(front, bytes, i, bad[k], true);
         compare_word(front, bytes, i, ((unsigned)words[2 * i] << 8 | words[2 * i + 1]) ^ (below(2) ? 1 : 0x100), false);
         compare_word(front, bytes, i, good_word(), true);
     }
 }
 
-/* Cells of level 1, which have whole parts and a rest: of one height throughout and of many, and with one that is not allowed. */
-static void compare_wide_writes(void) {
+/* Heights that are not allowed at the ends of parts, columns and the grid; what was written stays as it is. */
+static void compare_bad_heights(uint8_t *wide, size_t posts, size_t column, uint8_t *a, uint8_t *b, size_t bytes) {
+    const size_t at[] = {0, 1, column - 1, column, 1023, 1024, posts - column, posts - 2, posts - 1, below(posts)};
+    for (size_t i = 0; i < sizeof at / sizeof *at; i++) {
+        uint8_t *height = wide + 2 * at[i], was[2] = {height[0], height[1]};
+        dted_put_height(height, below(2) ? 9001 : -12001);
+        same(one->write(year, a, bytes, items, wide, 2 * posts), two->write(year, b, bytes, items, wide, 2 * posts), "write");
+        memcpy(height, was, 2);
+    }
+    same_bytes(a, b, bytes, "bytes of refused writes");
+}
+
+/* Cells of levels 1 and 2, which have whole parts and a rest: of one height throughout and of many, and with one that is not allowed. */
+static void compare_wide_writes(unsigned level, int turns) {
     static const int heights[] = {255, -11775, 9000, -12000, 0, DTED_VOID};
-    dted_answer laid = dted_grid(1, 0);
+    dted_answer laid = dted_grid(level, 0);
     size_t posts = dted_columns(laid) * dted_posts(laid), bytes = dted_cell_length(laid);
     uint8_t *wide = malloc(2 * posts), *a = calloc(bytes, 1), *b = calloc(bytes, 1);
     if (!wide || !a || !b)
         differ("no memory");
-    for (int turn = 0; turn < 24; turn++) {
+    for (int turn = 0; turn < turns; turn++) {
         some_items(0);
-        items[DTED_LEVEL] = 1;
+        items[DTED_LEVEL] = level;
         known_year();
         for (size_t i = 0; i < posts; i++)
-            dted_put_height(wide + 2 * i, turn < 6 ? heights[turn] : good_height(items[DTED_PARTIAL] != 0 && year == 1));
+            dted_put_height(wide + 2 * i, turn < 6 ? heights[turn] : good_height(items[DTED_PARTIAL] != 0 && (year == 1 || level == 2)));
         if (turn % 3 == 2)
             dted_put_height(wide + 2 * below(posts), some_height());
         same(one->write(year, a, bytes, items, wide, 2 * posts), two->write(year, b, bytes, items, wide, 2 * posts), "write");
         same_bytes(a, b, bytes, "written bytes");
     }
+    compare_bad_heights(wide, posts, dted_posts(laid), a, b, bytes);
     free(wide), free(a), free(b);
 }
 
@@ -528,7 +542,8 @@ size_t compare(const struct calls *a, const struct calls *b, const uint8_t *larg
         compare_fronts();
     for (unsigned i = 0; i < 2 * LEVELS; i++)
         compare_posts(kept[below(KEPT / LEVELS) * LEVELS + i % LEVELS], i % LEVELS);
-    compare_wide_writes();
+    compare_wide_writes(1, 24);
+    compare_wide_writes(2, 7);
     for (int latitude = -90; latitude <= 89; latitude++) {
         make_small(latitude);
         if (latitude % 20 == 0)

@@ -20,7 +20,9 @@ size_t set_count;
 
 const char *cpu_name(enum cpu cpu) { return cpu == BASE ? TEXT_OF(BASE_CPU) : "x86-64-v3"; }
 
-static const char *made_by(const char *compiler) { return strstr(compiler, "lang") ? "plain C, clang" : "plain C, gcc"; }
+static bool is_clang(const char *compiler) { return strstr(compiler, "lang") != NULL; }
+static const char *made_by(const char *compiler) { return is_clang(compiler) ? "plain C, clang" : "plain C, gcc"; }
+static const char *in_passes_by(const char *compiler) { return is_clang(compiler) ? "in passes, clang" : "in passes, gcc"; }
 
 static bool runs(enum cpu cpu) {
 #ifdef WITH_V3
@@ -35,8 +37,9 @@ static void add(struct calls set) {
         sets[set_count++] = set;
 }
 
-#define CALLS(who) who##_intake, who##_post, who##_edit, who##_write, false, false
+#define CALLS(who) who##_intake, who##_post, who##_edit, who##_write, false, false, false
 #define ADD_PLAIN(name, cpu) add((struct calls){made_by(name##_compiler()), cpu, CALLS(name)})
+#define ADD_IN_PASSES(name, cpu) add((struct calls){in_passes_by(name##_compiler()), cpu, CALLS(name)})
 
 void find_sets(void) {
     add((struct calls){"library", BASE, CALLS(dted)});
@@ -53,12 +56,12 @@ void find_sets(void) {
 #if defined WITH_SECOND && defined WITH_V3
     ADD_PLAIN(second_v3, V3);
 #endif
-    add((struct calls){"in passes, gcc", BASE, CALLS(passes)});
+    ADD_IN_PASSES(passes, BASE);
 #ifdef WITH_V3
-    add((struct calls){"in passes, gcc", V3, CALLS(passes_v3)});
+    ADD_IN_PASSES(passes_v3, V3);
 #endif
 #ifdef WITH_OLD
-    add((struct calls){"other archive", BASE, OLD(intake), OLD(post), OLD(edit), OLD(write), OLD_IS_YEARLESS, true});
+    add((struct calls){"other archive", BASE, OLD(intake), OLD(post), OLD(edit), OLD(write), OLD_IS_YEARLESS, true, false});
 #endif
 }
 

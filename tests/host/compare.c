@@ -551,6 +551,7 @@ int main(int count, char **texts) {
     run_fixed_cases();
     run_literal_cases();
     run_literal_year_cases();
+    run_part_cases();
     run_stored_cases();
     for (uint64_t number = 0; number < cases; number++) {
         struct plan plan = plan_of(number);

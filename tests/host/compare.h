@@ -29,6 +29,9 @@ void run_fixed_cases(void);
 void run_literal_cases(void);
 void run_literal_year_cases(void);
 
+/* At the edges of the parts in which columns and grids are gone over. */
+void run_part_cases(void);
+
 /* The stored cells, each in both years. */
 void run_stored_cases(void);
 

@@ -14,7 +14,7 @@ use Rattle.octets.specs.Choice.{pick, both}
 use Rattle.octets.specs.Numbers.{numberAt}
 use Rattle.octets.specs.Sums.{sumOf}
 use Rattle.octets.specs.Twos.{twosOf}
-use Rattle.octets.proofs.ChoiceLaws.{both-true, by-order, by-equal}
+use Rattle.octets.proofs.ChoiceLaws.{both-true, both-is, by-order, by-equal}
 use Rattle.octets.proofs.NumberLaws.{number-two}
 use Rattle.octets.proofs.SumLaws.{sum-step}
 use Rattle.octets.proofs.TwosLaws.{twos-low, twos-high}
@@ -132,6 +132,17 @@ word-of-all voids s at (suc n) zero e h =
 word-of-all voids s at (suc n) (suc i) e h =
     let on : at + 2 * suc i ≡ at + 2 + 2 * i = omega arith in
     rw on (word-of-all voids s (at + 2) n i (both-true (wordAllowed voids (numberAt s at 2)) (wordsAllowed voids s (at + 2) n) e .1) (omega arith))
+
+-- and the other way
+pub all-of-words : (voids : Bool) (s : List ℕ) (at n : ℕ) → ((i : ℕ) → i < n → wordAllowed voids (numberAt s (at + 2 * i) 2) ≡ true) → wordsAllowed voids s at n ≡ true
+unfolding wordsAllowed
+all-of-words voids s at zero each = refl
+all-of-words voids s at (suc n) each =
+    let here : at + 2 * 0 ≡ at = omega arith in
+    both-is (wordAllowed voids (numberAt s at 2)) (wordsAllowed voids s (at + 2) n) (rw here at (each 0 (omega arith)))
+    (all-of-words voids s (at + 2) n (λ i h.
+    let on : at + 2 * suc i ≡ at + 2 + 2 * i = omega arith in
+    rw on at (each (suc i) (omega arith))))
 
 -- a part on: what was found of the words before it, and of it, and what is left
 pub part-on : (voids : Bool) (s : List ℕ) (at at′ m k l : ℕ) (found part all : Bool) → l ≡ m + k → at′ ≡ at + 2 * m
