@@ -23,7 +23,7 @@ static void print_heading(size_t compared) {
         printf("cell of level %d: %zu columns of %zu posts, %zu bytes\n", level, cells[level].columns, cells[level].posts,
                cells[level].length);
     printf("compared before anything was timed: %zu answers and outputs, all equal; sets beside the library: %zu\n", compared, set_count - 1);
-    printf("rounds: %d, interleaved; each lap run untimed directly before; processor time of one thread; medians\n", ROUNDS);
+    printf("rounds: %d, shuffled; each lap run untimed directly before; processor time of one thread; medians\n", ROUNDS);
     printf("posts, edits and headers alone: %d in each round, the same for all, columns and posts by a fixed seed\n", PICKS);
     print_compilers();
 }

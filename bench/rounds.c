@@ -1,5 +1,5 @@
-/* rounds.c - runs the laps: every one once in each round, those of one act and one cell next to each other and in another order each
- * time, so that a drift of the machine hits all alike. Directly before it is timed a lap is run untimed, so that it finds its bytes as it
+/* rounds.c - runs the laps: every one once in each round, those of one act and one cell next to each other and shuffled each time, so
+ * that a drift of the machine, and what the lap before left in the cache, hit all alike. Directly before it is timed a lap is run untimed, so that it finds its bytes as it
  * leaves them itself, and not between the cache lines of the lap before. */
 #define _POSIX_C_SOURCE 200809L
 #include "laps.h"
@@ -45,12 +45,24 @@ static size_t act_size(size_t from) {
     return to - from;
 }
 
+/* So many laps from this one on, in an order that the seed fixes. */
+static void run_shuffled(size_t from, size_t count, unsigned round, uint64_t *seed) {
+    size_t order[MOST_LAPS];
+    for (size_t i = 0; i < count; i++)
+        order[i] = from + i;
+    for (size_t left = count; left > 0; left--) {
+        size_t drawn = next_random(seed) % left;
+        run_once(&laps[order[drawn]], round);
+        order[drawn] = order[left - 1];
+    }
+}
+
 void run_rounds(void) {
+    uint64_t seed = 20261116;
     for (unsigned round = 0; round < ROUNDS; round++) {
         for (size_t from = 0, count; from < lap_count; from += count) {
             count = act_size(from);
-            for (size_t i = 0; i < count; i++)
-                run_once(&laps[from + (i + round) % count], round);
+            run_shuffled(from, count, round, &seed);
         }
         check_round();
     }
