@@ -244,7 +244,7 @@ BENCH_NEEDS := $(wildcard bench/*.h) include/dted.h
 $(BENCH)/%.o: bench/%.c $(BENCH_NEEDS) $(BENCH)/words
 	$(BENCH_CC) $(BENCH_FLAGS) $(CPU:%=-march=%) $(BENCH_WITH) -c $< -o $@
 
-# plain.c and the read-only pass again, by the second compiler and for x86-64-v3, under other names
+# plain.c again, by the second compiler, in passes and for x86-64-v3, and the pass for x86-64-v3, under other names
 PLAIN_AGAIN = $(BENCH_FLAGS) $(foreach call,intake post edit write compiler,-Dplain_$(call)=$(basename $(@F))_$(call)) -c $< -o $@
 
 $(BENCH)/second.o: bench/plain.c $(BENCH_NEEDS) $(BENCH)/words

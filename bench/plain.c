@@ -442,7 +442,8 @@ static dted_answer judge_headers(uint32_t year, const uint8_t *h, size_t length,
 
 /* ---- sums of bytes ---- */
 
-/* A column is taken in parts of so many words: then sixteen bits hold each sum below, which makes for more lanes in a vector. */
+/* A column is taken in parts of so many words: then sixteen bits hold the sum of their high bytes and that of their low ones, which is all
+ * that is needed, and makes for more lanes in a vector. */
 enum { PART = 256 };
 
 /* The sum of 16-bit words, whatever their byte order, and that of their high bytes. */
@@ -521,7 +522,7 @@ static struct measure measure_words(const uint8_t *words, size_t posts, uint16_t
     return (struct measure){sum, bad ? INT16_MAX : 0, 0};
 }
 #else
-/* Whole parts apart from the last one: where their length is no constant, the processor reads less far ahead. */
+/* Whole parts apart from the last one: where their length is no constant, gcc's loop takes half as long again. */
 static struct measure measure_words(const uint8_t *words, size_t posts, uint16_t turn) {
     struct measure all = {0, INT16_MIN, INT16_MIN};
     for (; posts >= PART; posts -= PART, words += 2 * PART)

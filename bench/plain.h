@@ -14,7 +14,7 @@
 
 NAMED_CALLS(plain);
 
-/* plain.c once more: for x86-64-v3, by a second compiler for both processors, and with a column in passes as it had it before 0.5.1; and the
+/* plain.c once more: for x86-64-v3, by a second compiler for both processors, and with a column in two passes, as it had it before 0.5.1; and the
  * library for x86-64-v3. */
 NAMED_CALLS(plain_v3);
 NAMED_CALLS(second);

@@ -1,6 +1,6 @@
 /* rounds.c - runs the laps: every one once in each round, those of one act and one cell next to each other and shuffled each time, so
- * that a drift of the machine, and what the lap before left in the cache, hit all alike. Directly before it is timed a lap is run untimed, so that it finds its bytes as it
- * leaves them itself, and not between the cache lines of the lap before. */
+ * that a drift of the machine, and what the lap before left in the cache, hit all alike. Directly before it is timed a lap is run
+ * untimed, so that it finds its bytes as it leaves them itself, and not between the cache lines of the lap before. */
 #define _POSIX_C_SOURCE 200809L
 #include "laps.h"
 

@@ -1,5 +1,5 @@
 /* parts.c - cases at the edges of the parts in which the library goes over a column and over a grid: 256 words, 1,024 heights, and what
- * is left after the last whole part. Words, posts and answers are written out. */
+ * is left after the last whole part. Words, posts and bounds are written out here. */
 #include "both.h"
 #include "compare.h"
 #include "dted.h"
@@ -14,7 +14,7 @@
 
 static const size_t posts_of[] = {121, 1201, 3601};
 
-/* The first and last posts of parts and of columns; those that a level has not are passed over. */
+/* First and last posts of columns and of some parts; those that a level has not are passed over. */
 static const size_t edges[] = {0,    1,    119,  120,  254,  255,  256,  257,  511,  512,  767,  768,  1022, 1023, 1024,
                                1025, 1199, 1200, 2047, 2048, 3071, 3072, 3327, 3328, 3582, 3583, 3584, 3585, 3599, 3600};
 
@@ -53,7 +53,9 @@ struct place {
     size_t post;
 };
 
-static bool is_allowed(unsigned word, bool voids) { return word <= 9000 || (word >= 0x8000 && word <= 0xAEE0) || (word == 0xFFFF && voids); }
+static bool is_allowed(unsigned word, bool voids) {
+    return word <= 9000 || (word >= 0x8000 && word <= 0xAEE0) || (word == 0xFFFF && voids);
+}
 
 /* A good column goes on to the cut after it; any other is refused at its place. */
 static void expect_column(const struct place *place, size_t size, uint64_t number, uint64_t at) {
@@ -81,7 +83,7 @@ static void word_case(const void *context) {
     }
 }
 
-/* The largest sums: 9000, -12000 and void throughout. */
+/* The largest sums of bytes that a height, a depth and void have: 8,959, -11,775 and void throughout. */
 static void full_case(const void *context) {
     static const unsigned words[] = {0x22FF, 0xADFF, 0xFFFF};
     const int64_t *level = context;

@@ -31,7 +31,7 @@ pub record Reaches (g : Heights) (first posts : ℕ) : Type 0 where
   pub there : first + posts ≤ countOf g
   pub end : first + posts < 2 ^ 64
 
--- such heights, so few that 16 bits hold the sum of their words' high bytes, and room for their words from `at` on
+-- such heights, so few that 16 bits hold the sum of their words' high bytes, and that of their low bytes, and room for their words from `at` on
 pub record PartFits (out : List ℕ) (at : ℕ) (g : Heights) (first n : ℕ) : Type 0 where
   pub heights : Reaches g first n
   pub few : n ≤ 256

@@ -61,7 +61,7 @@ fn also_four(kept: bool, s: &[u8], basis: Basis, from: usize) -> bool
 }
 
 // Whether all rows after the first four keep their rules. The rows are named and not counted in a loop: so a compiler knows each row's
-// field, and leaves of its rule the test of its own bytes.
+// field, and only the test of that field's bytes is left of its rule.
 pub fn rest_keep(s: &[u8], basis: Basis) -> bool
     requires { ⌜ RowsToJudge (now s) basis 4 40 ⌝ }
     ensures { λ r. ⌜ r ≡ scan (λ (i : ℕ) (rest : Bool). both (by.keeps (now (s .entry)) basis (fieldAt i)) rest) true 4 36 ⌝ }

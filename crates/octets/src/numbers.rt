@@ -1,4 +1,4 @@
-// Numbers in two, three and four bytes, high byte first: read, and put over what stands there.
+// Numbers in two, three and four bytes, high byte first, and in two, low byte first: read, and put over what stands there.
 ghost use mathlib.Core.Path.{_≡_};
 ghost use mathlib.Core.List.{[], _∷_};
 ghost use Prim.Native.Nat.{_+_, _*_, _/_, _%_, _<_, _≤_};
@@ -19,7 +19,7 @@ fn wide16(x: u8) -> u16
     x as u16
 }
 
-// Two bytes, the low one first, as the machine has them: by itself, so that a compiler makes one load of the two before it swaps them.
+// Two bytes, the low one first, as most machines have them: by itself, so that a compiler makes one load of the two before it swaps them.
 pub fn low_first(s: &[u8], at: usize) -> u16
     requires { ⌜ at + 2 ≤ length (now s) ⌝ }
     ensures { λ r. ⌜ r ≡ getD (now (s .entry)) at 0 + getD (now (s .entry)) (at + 1) 0 * 256 ⌝ }

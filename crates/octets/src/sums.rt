@@ -18,7 +18,7 @@ pub fn sum(part: &[u8]) -> u32
     sum
 }
 
-// The sum of the bytes of words, from the words' sum, of which 16 bits are kept, and the sum of their high bytes.
+// The sum of the bytes of words, from 16 bits of the words' sum and the sum of their high bytes; right where 16 bits hold that of the low ones.
 pub fn bytes_of(words: u16, highs: u16) -> u32
     ensures { λ r. ⌜ r ≡ highs + lowsOf words highs ⌝ }
 {

@@ -1,4 +1,4 @@
-// Words of 16 bits as two's complement numbers; no cast may lose a bit.
+// Words of 16 bits as two's complement numbers, made without a cast that would lose a bit.
 ghost use mathlib.Core.Path.{_≡_};
 ghost use Rattle.octets.specs.Twos.{twosOf};
 

@@ -23,14 +23,14 @@ pub struct Measured {
     pub allowed: bool,
 }
 
-// What is added to a word, in 16 bits, so that depths come to lie from 0 on, and void below them where it is allowed.
+// What is added to a word, in 16 bits, so that depths come to lie above 0 in their order, and void below all where it is allowed.
 fn turn_for(voids: bool) -> u16
     ensures { λ r. ⌜ r ≡ turnBy voids ⌝ }
 {
     if voids { 0x8001 } else { 0x8000 }
 }
 
-// Where the deepest word comes to lie.
+// Where the deepest word that is allowed comes to lie.
 fn deepest_for(voids: bool) -> i16
     ensures { λ r. ⌜ r ≡ deepestTurned voids ⌝ }
 {
@@ -44,8 +44,8 @@ fn are_allowed(highest: i16, deepest: i16, voids: bool) -> bool
     both(highest <= 9000, deepest <= deepest_for(voids))
 }
 
-// At most so many words from `at` on; a call with this very number is a loop of known length. Bytes are summed in the order that they were read
-// in, since a sum does not mind it.
+// At most MOST words from `at` on; where a call names MOST, the loop has a known length. Bytes are summed as they were read: a sum does not
+// mind their order.
 pub fn measure_part(s: &[u8], at: usize, n: usize, voids: bool) -> Measured
     requires { ⌜ FewWords (now s) at n ⌝ }
     ensures { λ r. ⌜ (r .sum ≡ sumOf (take (2 * n) (drop at (now (s .entry))))) × (r .sum ≤ 510 * n) ⌝ }
