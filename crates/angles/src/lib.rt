@@ -1,4 +1,5 @@
 // Whole-degree angles, counted from 90 S or from 180 W, and the degrees and letter that write them.
+#![tactic(auto)]
 ghost use Rattle.std.specs.Prelude.{◌≡◌, suc, ◌+◌, length};
 ghost use Rattle.angles.specs.Asked.{FewDegrees};
 ghost use Rattle.angles.specs.Angles.{form, angle_of, degrees_of, letter_of, is_origin, either_letter, is_side, may_carry, angle_text};
@@ -7,6 +8,7 @@ use octets::choices::{both, either};
 
 // An axis: how many degrees lie before 0, and the letters on either side.
 #[derive(Drop)]
+#[derive(Clone, Copy)]
 pub struct Axis {
     pub most: usize,
     pub plus: u8,

@@ -1,9 +1,11 @@
 // What the library's calls answer: refusals with their places, and the answers that carry one.
+#![tactic(auto)]
 ghost use Rattle.std.specs.Prelude.{◌≡◌};
 ghost use Rattle.answers.specs.Told.{numbered, refused};
 
 // Why a call was refused, with its place: an offset in the file, a length, an item or an index.
 #[derive(Drop)]
+#[derive(Clone, Copy)]
 pub enum Refusal {
     // fewer bytes than the headers: the length
     Short(usize),
@@ -39,6 +41,7 @@ pub enum Refusal {
 
 // What intake answers, whole or step by step.
 #[derive(Drop)]
+#[derive(Clone, Copy)]
 pub enum Verdict {
     // good so far, the next piece is due
     More,
@@ -52,6 +55,7 @@ pub enum Verdict {
 
 // What a lookup of one post answers.
 #[derive(Drop)]
+#[derive(Clone, Copy)]
 pub enum Reading {
     Height(i16),
     Void,
@@ -60,6 +64,7 @@ pub enum Reading {
 
 // What a lookup of a position answers: the nearest post, and what it reads as.
 #[derive(Drop)]
+#[derive(Clone, Copy)]
 pub enum Located {
     Height {
         column: usize,
@@ -75,6 +80,7 @@ pub enum Located {
 
 // What an edit or a writer answers.
 #[derive(Drop)]
+#[derive(Clone, Copy)]
 pub enum Outcome {
     Done,
     Refused(Refusal),
@@ -82,6 +88,7 @@ pub enum Outcome {
 
 // A refusal's number and its place, as a host or a printed line has them.
 #[derive(Drop)]
+#[derive(Clone, Copy)]
 pub struct Numbered(pub usize, pub usize);
 
 // The number and the place of a refusal.

@@ -1,4 +1,5 @@
 // The writer of a whole cell: headers from a description, then the columns of what is given, from any source.
+#![tactic(auto)]
 ghost use Rattle.std.specs.Prelude.{◌≡◌, true, length};
 ghost use Rattle.answers.specs.Told as told;
 ghost use Rattle.answers.specs.declared.Outcome.TheVariants.{Done};
@@ -83,8 +84,8 @@ pub fn write_ranged(
     bytes: &[u8],
 ) -> Outcome
     requires { in_range d ≡ true }
-    ensures value { result ≡ judged_under (frame_for year d) (heights_from source numbers.now bytes.now) (length out.old) }
-    ensures out_after { out.new ≡ output_under year d (heights_from source numbers.now bytes.now) out.old }
+    ensures answer { result ≡ judged_under (frame_for year d) (heights_from source numbers.now bytes.now) (length out.old) }
+    ensures lent { out.new ≡ output_under year d (heights_from source numbers.now bytes.now) out.old }
 {
     let frame = frame_of(year, facts_for(d));
     let grid = frame.grid;
@@ -107,8 +108,8 @@ pub fn write_ranged(
 
 // The writer by the rules of a year.
 fn write_under(year: Year, out: &mut [u8], d: Description, heights: &[i16]) -> Outcome
-    ensures result_value { told.told told.act result ≡ cell_told year d heights.now out.old }
-    ensures out_after { out.new ≡ cell_output year d heights.now out.old }
+    ensures answer { told.told told.act result ≡ cell_told year d heights.now out.old }
+    ensures lent { out.new ≡ cell_output year d heights.now out.old }
 {
     let item = bad_item(d);
     if item != 0 {
@@ -119,8 +120,8 @@ fn write_under(year: Year, out: &mut [u8], d: Description, heights: &[i16]) -> O
 
 // The cell of a description and a grid of heights, at the front of `out`; any number for the rule year, any items, any heights.
 pub fn write(named: u32, out: &mut [u8], d: Description, heights: &[i16]) -> Outcome
-    ensures result_value { told.told told.act result ≡ under named (λ year. cell_told year d heights.now out.old) }
-    ensures out_after { out.new ≡ left_under named out.old (λ year. cell_output year d heights.now out.old) }
+    ensures answer { told.told told.act result ≡ under named (λ year. cell_told year d heights.now out.old) }
+    ensures lent { out.new ≡ left_under named out.old (λ year. cell_output year d heights.now out.old) }
 {
     match year_of(named) {
         Named::Rule(year) => write_under(year, out, d, heights),

@@ -1,4 +1,5 @@
 // The column writer: one column from a level, its number and its heights, voids allowed.
+#![tactic(auto)]
 ghost use Rattle.std.specs.Prelude.{◌≡◌};
 ghost use Rattle.answers.specs.Told as told;
 ghost use Rattle.sources.specs.Heights.{heights_from};
@@ -14,6 +15,7 @@ use sources::Source;
 
 // The grid that has a column, or why there is no such column.
 #[derive(Drop)]
+#[derive(Clone, Copy)]
 pub enum Placed {
     On(Grid),
     Refused(Refusal),
@@ -42,8 +44,8 @@ pub fn write_from(
     numbers: &[i16],
     bytes: &[u8],
 ) -> Outcome
-    ensures result_value { told.told told.act result ≡ column_told_from level number (heights_from source numbers.now bytes.now) out.old }
-    ensures out_after { out.new ≡ column_output_from level number (heights_from source numbers.now bytes.now) out.old }
+    ensures answer { told.told told.act result ≡ column_told_from level number (heights_from source numbers.now bytes.now) out.old }
+    ensures lent { out.new ≡ column_output_from level number (heights_from source numbers.now bytes.now) out.old }
 {
     match place(level, number) {
         Placed::On(grid) => {
@@ -62,8 +64,8 @@ pub fn write_from(
 
 // Column `number` of a level from its heights, at the front of `out`; any numbers, any heights.
 pub fn write(out: &mut [u8], level: usize, number: usize, heights: &[i16]) -> Outcome
-    ensures result_value { told.told told.act result ≡ column_told level number heights.now out.old }
-    ensures out_after { out.new ≡ column_output level number heights.now out.old }
+    ensures answer { told.told told.act result ≡ column_told level number heights.now out.old }
+    ensures lent { out.new ≡ column_output level number heights.now out.old }
 {
     write_from(out, level, number, Source::Numbers, heights, &[])
 }

@@ -1,4 +1,5 @@
 // One data column: its preamble, its checksum and its post words, judged and written over any number of posts.
+#![tactic(auto)]
 ghost use Rattle.std.specs.Prelude.{◌≡◌};
 ghost use Rattle.columns.specs.Asked.{Whole, WholeSummed};
 ghost use Rattle.columns.specs.Judged.{head_of, judged_column};
@@ -14,6 +15,7 @@ use octets::numbers::{be16, be24, be32};
 use posts::words::is_allowed;
 
 #[derive(Drop)]
+#[derive(Clone, Copy)]
 pub enum JudgedColumn {
     Good,
     Refused(Refusal),

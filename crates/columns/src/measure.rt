@@ -13,8 +13,8 @@ use posts::parts::{MOST, Measured, measure_part};
 // The preamble, as four words of which the sum alone counts, then the whole parts and the rest of the words.
 pub fn measure(column: &[u8], posts: usize, voids: bool) -> Measured
     requires { Full column.now posts }
-    ensures sum_value { result.sum ≡ sum_of (take (sum_at posts) column.now) }
-    ensures allowed_value { result.allowed ≡ words_allowed voids column.now 8 posts }
+    ensures summed { result.sum ≡ sum_of (take (sum_at posts) column.now) }
+    ensures allowed { result.allowed ≡ words_allowed voids column.now 8 posts }
 {
     let preamble = measure_part(column, 0, 4, voids);
     let mut total = preamble.sum;

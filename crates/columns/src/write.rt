@@ -25,8 +25,8 @@ fn put_part(
     n: usize,
 ) -> u32
     requires { PartFits out.old at (heights_from source numbers.now bytes.now) first n }
-    ensures value { result ≡ sum_of (bytes_of_words (height_words (heights_from source numbers.now bytes.now) first n)) }
-    ensures out_after { out.new ≡ pasted out.old at (bytes_of_words (height_words (heights_from source numbers.now bytes.now) first n)) }
+    ensures summed { result ≡ sum_of (bytes_of_words (height_words (heights_from source numbers.now bytes.now) first n)) }
+    ensures lent { out.new ≡ pasted out.old at (bytes_of_words (height_words (heights_from source numbers.now bytes.now) first n)) }
 {
     let mut words: u16 = 0;
     let mut highs: u16 = 0;
@@ -51,8 +51,8 @@ fn put_words(
     posts: usize,
 ) -> u32
     requires { WordsFit out.old (heights_from source numbers.now bytes.now) first posts }
-    ensures value { result ≡ sum_of (bytes_of_words (height_words (heights_from source numbers.now bytes.now) first posts)) }
-    ensures out_after { out.new ≡ pasted out.old 8 (bytes_of_words (height_words (heights_from source numbers.now bytes.now) first posts)) }
+    ensures summed { result ≡ sum_of (bytes_of_words (height_words (heights_from source numbers.now bytes.now) first posts)) }
+    ensures lent { out.new ≡ pasted out.old 8 (bytes_of_words (height_words (heights_from source numbers.now bytes.now) first posts)) }
 {
     let mut sum = 0;
     let mut i = 0;

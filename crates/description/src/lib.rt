@@ -1,4 +1,5 @@
 // The description of a cell: the thirteen items that its headers say, read from them and ranged, and what they make due.
+#![tactic(auto)]
 use answers::Refusal;
 
 pub mod describe;
@@ -7,12 +8,14 @@ pub mod items;
 
 // An accuracy in metres, or not available.
 #[derive(Drop)]
+#[derive(Clone, Copy)]
 pub enum Accuracy {
     Metres(u16),
     Unknown,
 }
 
 #[derive(Drop)]
+#[derive(Clone, Copy)]
 pub struct Accuracies {
     pub horizontal: Accuracy,
     pub vertical: Accuracy,
@@ -20,6 +23,7 @@ pub struct Accuracies {
 
 // The vertical datum.
 #[derive(Drop)]
+#[derive(Clone, Copy)]
 pub enum Datum {
     Msl,
     E96,
@@ -27,6 +31,7 @@ pub enum Datum {
 
 // The thirteen items of a cell: what its headers say beyond what is fixed. Angles are counted as in `angles`.
 #[derive(Drop)]
+#[derive(Clone, Copy)]
 pub struct Description {
     pub level: usize,
     pub latitude: usize,
@@ -42,6 +47,7 @@ pub struct Description {
 }
 
 #[derive(Drop)]
+#[derive(Clone, Copy)]
 pub enum Described {
     As(Description),
     Refused(Refusal),

@@ -30,8 +30,8 @@ pub extern "C" fn dted_position(named: u32, cell: &[u8], latitude: i64, longitud
 
 #[unsafe(no_mangle)]
 pub extern "C" fn dted_edit(named: u32, cell: &mut [u8], column: u64, post: u64, height: i64) -> u64
-    ensures value { result ≡ packed (under named (λ year. edit_told year cell.old column post height)) }
-    ensures cell_after { cell.new ≡ left_under named cell.old (λ year. edited year cell.old column post height) }
+    ensures answer { result ≡ packed (under named (λ year. edit_told year cell.old column post height)) }
+    ensures lent { cell.new ≡ left_under named cell.old (λ year. edited year cell.old column post height) }
 {
     let answer = edit::edit(named, cell, column as usize, post as usize, height);
     host_answers::outcome(answer)

@@ -10,8 +10,8 @@ use host_items::numbers::put_numbers;
 
 #[unsafe(no_mangle)]
 pub extern "C" fn dted_describe(cell: &[u8], items: &mut [i64; ITEMS]) -> u64
-    ensures value { result ≡ packed (said_of_described (described cell.now)) }
-    ensures after { items.new ≡ items_after (described cell.now) items.old }
+    ensures answer { result ≡ packed (said_of_described (described cell.now)) }
+    ensures lent { items.new ≡ items_after (described cell.now) items.old }
 {
     match description::describe::describe(cell) {
         Described::As(description) => {

@@ -9,8 +9,8 @@ use host_items::items::ITEMS;
 
 #[unsafe(no_mangle)]
 pub extern "C" fn dted_write(named: u32, out: &mut [u8], items: &[i64; ITEMS], grid: &[u8]) -> u64
-    ensures value { result ≡ packed (under named (λ year. bytes_told year items.now grid.now out.old)) }
-    ensures out_after { out.new ≡ left_under named out.old (λ year. bytes_output year items.now grid.now out.old) }
+    ensures answer { result ≡ packed (under named (λ year. bytes_told year items.now grid.now out.old)) }
+    ensures lent { out.new ≡ left_under named out.old (λ year. bytes_output year items.now grid.now out.old) }
 {
     let answer = host_writers::cell::write(named, out, items, grid);
     host_answers::outcome(answer)
@@ -18,8 +18,8 @@ pub extern "C" fn dted_write(named: u32, out: &mut [u8], items: &[i64; ITEMS], g
 
 #[unsafe(no_mangle)]
 pub extern "C" fn dted_write_column(out: &mut [u8], level: u64, number: u64, posts: &[u8]) -> u64
-    ensures value { result ≡ packed (column_bytes_told level number posts.now out.old) }
-    ensures out_after { out.new ≡ column_bytes_output level number posts.now out.old }
+    ensures answer { result ≡ packed (column_bytes_told level number posts.now out.old) }
+    ensures lent { out.new ≡ column_bytes_output level number posts.now out.old }
 {
     let answer = host_writers::column::write(out, level as usize, number as usize, posts);
     host_answers::outcome(answer)

@@ -9,6 +9,7 @@ use fields::Angle;
 
 // An angle, the digits of its degrees, whether its seconds have a tenth, and whether it is a corner's.
 #[derive(Drop)]
+#[derive(Clone, Copy)]
 pub struct DueAngle {
     pub axis: Axis,
     pub angle: usize,

@@ -1,5 +1,6 @@
 // What is due in a field of the headers, as bytes: the judge compares with it, and the writer puts it.
 // Inside, a latitude is counted in whole degrees from 90 S and a longitude from 180 W, so that both are unsigned.
+#![tactic(auto)]
 use layout::{Bytes, Grid, Interval};
 
 pub mod compare;
@@ -10,6 +11,7 @@ pub mod texts;
 
 // What level, origin and security letter are: by these the other fields are due.
 #[derive(Drop)]
+#[derive(Clone, Copy)]
 pub struct Basis {
     pub grid: Grid,
     pub latitude: usize,

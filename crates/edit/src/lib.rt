@@ -1,4 +1,5 @@
 // The edit: one post of a cell made another height or void, its column changed as a part of the cell.
+#![tactic(auto)]
 ghost use Rattle.std.specs.Prelude.{◌≡◌};
 ghost use Rattle.answers.specs.Told as told;
 ghost use Rattle.years.specs.Years.{under, left_under};
@@ -13,8 +14,8 @@ use years::{Named, Year, year_of};
 
 // The edit by the rules of a year.
 fn edit_under(year: Year, cell: &mut [u8], column: usize, post: usize, height: i64) -> Outcome
-    ensures result_value { told.told told.act result ≡ edit_told year cell.old column post height }
-    ensures cell_after { cell.new ≡ edited year cell.old column post height }
+    ensures answer { told.told told.act result ≡ edit_told year cell.old column post height }
+    ensures lent { cell.new ≡ edited year cell.old column post height }
 {
     let reached = reach(year, cell, column, post);
     match reached {
@@ -35,8 +36,8 @@ fn edit_under(year: Year, cell: &mut [u8], column: usize, post: usize, height: i
 
 // Post `post` of column `column` made this height, or void's number; any number for the rule year, any bytes and any numbers.
 pub fn edit(named: u32, cell: &mut [u8], column: usize, post: usize, height: i64) -> Outcome
-    ensures result_value { told.told told.act result ≡ under named (λ year. edit_told year cell.old column post height) }
-    ensures cell_after { cell.new ≡ left_under named cell.old (λ year. edited year cell.old column post height) }
+    ensures answer { told.told told.act result ≡ under named (λ year. edit_told year cell.old column post height) }
+    ensures lent { cell.new ≡ left_under named cell.old (λ year. edited year cell.old column post height) }
 {
     match year_of(named) {
         Named::Rule(year) => edit_under(year, cell, column, post, height),

@@ -2,6 +2,7 @@
 
 // An area of zeros: where it stands, and how many there are.
 #[derive(Drop)]
+#[derive(Clone, Copy)]
 pub struct Area(pub usize, pub usize);
 
 pub const AREAS: [Area; 4] = [Area(144, 15), Area(170, 12), Area(215, 2), Area(239, 4)];

@@ -1,4 +1,5 @@
 // The fields of the headers, row by row in the order of judging: headers are judged and written by them.
+#![tactic(auto)]
 ghost use Rattle.std.specs.Prelude.{◌≡◌, ◌+◌, ◌<◌};
 ghost use Rattle.fields.specs.Table.{field_at};
 
@@ -7,6 +8,7 @@ pub mod places;
 
 // A fixed text.
 #[derive(Drop)]
+#[derive(Clone, Copy)]
 pub enum Text {
     Uhl1,
     Zero,
@@ -20,6 +22,7 @@ pub enum Text {
 
 // A number that the grid makes due, in four digits.
 #[derive(Drop)]
+#[derive(Clone, Copy)]
 pub enum Number {
     LatitudeInterval,
     LongitudeInterval,
@@ -29,6 +32,7 @@ pub enum Number {
 
 // An angle that the origin makes due: the origin again in the DSI, and the edges that the corners lie on.
 #[derive(Drop)]
+#[derive(Clone, Copy)]
 pub enum Angle {
     OriginLatitude,
     OriginLongitude,
@@ -40,6 +44,7 @@ pub enum Angle {
 
 // Whose accuracy.
 #[derive(Drop)]
+#[derive(Clone, Copy)]
 pub enum Whose {
     Uhl,
     AbsoluteHorizontal,
@@ -50,6 +55,7 @@ pub enum Whose {
 
 // An item of the description: its field alone says it.
 #[derive(Drop)]
+#[derive(Clone, Copy)]
 pub enum Item {
     Level,
     Latitude,
@@ -64,6 +70,7 @@ pub enum Item {
 
 // What is due in a field, once level, origin and security letter are known.
 #[derive(Drop)]
+#[derive(Clone, Copy)]
 pub enum Due {
     Text(Text),
     Number(Number),
@@ -74,6 +81,7 @@ pub enum Due {
 
 // What a field holds.
 #[derive(Drop)]
+#[derive(Clone, Copy)]
 pub enum Kind {
     Item(Item),
     Due(Due),
@@ -81,6 +89,7 @@ pub enum Kind {
 
 // Where a field stands, how many bytes it has, and what it holds.
 #[derive(Drop)]
+#[derive(Clone, Copy)]
 pub struct Field(pub usize, pub usize, pub Kind);
 
 pub const FIELDS: usize = 40;

@@ -1,4 +1,5 @@
 // Headers: the 3,428 bytes before the first column, judged field by field in the order of the table.
+#![tactic(auto)]
 use answers::Refusal;
 use layout::Grid;
 
@@ -8,6 +9,7 @@ pub mod rows;
 
 // What the rest of the library needs of good headers. Angles are counted as in `angles`.
 #[derive(Drop)]
+#[derive(Clone, Copy)]
 pub struct Facts {
     pub grid: Grid,
     pub latitude: usize,
@@ -16,6 +18,7 @@ pub struct Facts {
 }
 
 #[derive(Drop)]
+#[derive(Clone, Copy)]
 pub enum JudgedHeaders {
     Good(Facts),
     Refused(Refusal),

@@ -12,8 +12,8 @@ use years::{Named, Year, year_of};
 
 // The writer by the rules of a year.
 fn write_under(year: Year, out: &mut [u8], items: &[i64; ITEMS], grid: &[u8]) -> Outcome
-    ensures result_value { told.told told.act result ≡ bytes_told year items.now grid.now out.old }
-    ensures out_after { out.new ≡ bytes_output year items.now grid.now out.old }
+    ensures answer { told.told told.act result ≡ bytes_told year items.now grid.now out.old }
+    ensures lent { out.new ≡ bytes_output year items.now grid.now out.old }
 {
     let number = bad_number(items);
     if number != 0 {
@@ -24,8 +24,8 @@ fn write_under(year: Year, out: &mut [u8], items: &[i64; ITEMS], grid: &[u8]) ->
 
 // The cell of items and a grid of heights, at the front of `out`; any number for the rule year, any numbers, any bytes.
 pub fn write(named: u32, out: &mut [u8], items: &[i64; ITEMS], grid: &[u8]) -> Outcome
-    ensures result_value { told.told told.act result ≡ under named (λ year. bytes_told year items.now grid.now out.old) }
-    ensures out_after { out.new ≡ left_under named out.old (λ year. bytes_output year items.now grid.now out.old) }
+    ensures answer { told.told told.act result ≡ under named (λ year. bytes_told year items.now grid.now out.old) }
+    ensures lent { out.new ≡ left_under named out.old (λ year. bytes_output year items.now grid.now out.old) }
 {
     match year_of(named) {
         Named::Rule(year) => write_under(year, out, items, grid),

@@ -9,8 +9,8 @@ use sources::Source;
 
 // Column `number` of a level from its heights, at the front of `out`; any numbers, any bytes.
 pub fn write(out: &mut [u8], level: usize, number: usize, posts: &[u8]) -> Outcome
-    ensures result_value { told.told told.act result ≡ column_bytes_told level number posts.now out.old }
-    ensures out_after { out.new ≡ column_bytes_output level number posts.now out.old }
+    ensures answer { told.told told.act result ≡ column_bytes_told level number posts.now out.old }
+    ensures lent { out.new ≡ column_bytes_output level number posts.now out.old }
 {
     write_from(out, level, number, Source::Bytes, &[], posts)
 }

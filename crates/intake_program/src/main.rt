@@ -1,6 +1,7 @@
 // Judges the cell on standard input by the rules of year 2 and prints one line: `accepted LEVEL COLUMNS POSTS` or `refused NO PLACE`.
 // It only feeds stepwise intake, a column at a time through one buffer; everything that is decided is decided there.
 // Given any argument it judges nothing: a line about standard input would be taken for one about a file that was named.
+#![tactic(auto)]
 ghost use Rattle.std.specs.Prelude.{◌≡◌, ◌≤◌, length};
 ghost use Rattle.steps.specs.Turns.{is_final};
 ghost use Rattle.intake_program.specs.Found.{FilledUpTo, Settled};
@@ -22,6 +23,7 @@ const BUFFER: usize = 7214;
 
 // What a piece was filled with: so many bytes, or what the call of read answered that failed.
 #[derive(Drop)]
+#[derive(Clone, Copy)]
 enum Filled {
     Bytes(usize),
     Failed(isize),
@@ -29,6 +31,7 @@ enum Filled {
 
 // What the input was found to be; unread, with what the call of read answered that failed.
 #[derive(Drop)]
+#[derive(Clone, Copy)]
 enum Found {
     Answer(Verdict),
     Unread(isize),

@@ -1,4 +1,5 @@
 // Levels and latitude zones: what grid of posts a cell has, and how long its columns and the cell are.
+#![tactic(auto)]
 ghost use Rattle.std.specs.Prelude.{◌≡◌};
 ghost use Rattle.layout.specs.Grid.{grid_of, laid};
 ghost use Rattle.layout.specs.Asked.{HasGrid};
@@ -13,6 +14,7 @@ pub const HEADER_BYTES: usize = 3428;
 
 // Tenths of an arc-second between neighbouring posts of a column, and between neighbouring columns.
 #[derive(Drop)]
+#[derive(Clone, Copy)]
 pub struct Interval {
     pub latitude: usize,
     pub longitude: usize,
@@ -20,6 +22,7 @@ pub struct Interval {
 
 // Lengths in bytes.
 #[derive(Drop)]
+#[derive(Clone, Copy)]
 pub struct Bytes {
     pub column: usize,
     pub cell: usize,
@@ -27,6 +30,7 @@ pub struct Bytes {
 
 // The grid of a cell: its columns, and the posts to a column.
 #[derive(Drop)]
+#[derive(Clone, Copy)]
 pub struct Grid {
     pub level: usize,
     pub factor: usize,
@@ -38,12 +42,14 @@ pub struct Grid {
 
 // What the columns of a cell are held to: its grid, and whether it may hold voids.
 #[derive(Drop)]
+#[derive(Clone, Copy)]
 pub struct Frame {
     pub grid: Grid,
     pub voids: bool,
 }
 
 #[derive(Drop)]
+#[derive(Clone, Copy)]
 pub enum Laid {
     Out(Grid),
     NoLevel,

@@ -13,6 +13,7 @@ use years::Year;
 
 // A post of a good column: where the column starts, how many posts it has, whether it may hold voids, and the post's word.
 #[derive(Drop)]
+#[derive(Clone, Copy)]
 pub struct Spot {
     pub start: usize,
     pub posts: usize,
@@ -21,6 +22,7 @@ pub struct Spot {
 }
 
 #[derive(Drop)]
+#[derive(Clone, Copy)]
 pub enum Reached {
     At(Spot),
     Refused(Refusal),

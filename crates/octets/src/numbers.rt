@@ -19,8 +19,8 @@ fn wide16(x: u8) -> u16
 // Two bytes, the low one first, as most machines have them: by itself, so that a compiler makes one load of the two before it swaps them.
 pub fn low_first(s: &[u8], at: usize) -> u16
     requires { at + 2 ≤ length s.now }
-    ensures value { result ≡ slice_index s.now at + slice_index s.now (at + 1) * 256 }
-    ensures result_value { (result % 256 ≡ slice_index s.now at) × (result / 256 ≡ slice_index s.now (at + 1)) }
+    ensures number { result ≡ slice_index s.now at + slice_index s.now (at + 1) * 256 }
+    ensures bytes { (result % 256 ≡ slice_index s.now at) × (result / 256 ≡ slice_index s.now (at + 1)) }
 {
     wide16(s[at]) + wide16(s[at + 1]) * 256
 }

@@ -1,4 +1,5 @@
 // Lookup of a position: the post at or to the south-west of it, what remains, and the nearest post from those.
+#![tactic(auto)]
 ghost use Rattle.std.specs.Prelude.{◌≡◌, ◌≤◌};
 ghost use Rattle.answers.specs.Told as told;
 ghost use Rattle.years.specs.Years.{under};
@@ -24,6 +25,7 @@ const LONGITUDES: usize = 6480000;
 
 // Tenths along an axis.
 #[derive(Drop)]
+#[derive(Clone, Copy)]
 pub enum Along {
     On(usize),
     Off,
@@ -31,6 +33,7 @@ pub enum Along {
 
 // The post at or to the south-west of a position, and how far the position lies east and north of it.
 #[derive(Drop)]
+#[derive(Clone, Copy)]
 pub struct Corner {
     pub column: usize,
     pub post: usize,
@@ -39,6 +42,7 @@ pub struct Corner {
 }
 
 #[derive(Drop)]
+#[derive(Clone, Copy)]
 pub enum Within {
     In(Corner),
     Off,

@@ -1,4 +1,5 @@
 // Posts: what a post word means, and which words and heights a cell may hold. No other crate knows the words.
+#![tactic(auto)]
 pub mod heights;
 pub mod parts;
 pub mod spans;
@@ -6,6 +7,7 @@ pub mod words;
 
 // What one post says.
 #[derive(Drop)]
+#[derive(Clone, Copy)]
 pub enum Post {
     Height(i16),
     Void,

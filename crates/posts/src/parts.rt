@@ -17,6 +17,7 @@ pub const MOST: usize = 256;
 
 // What a part of a column, or all of it, sums up to, and whether each of its words is allowed.
 #[derive(Drop)]
+#[derive(Clone, Copy)]
 pub struct Measured {
     pub sum: u32,
     pub allowed: bool,
@@ -47,8 +48,8 @@ fn are_allowed(highest: i16, deepest: i16, voids: bool) -> bool
 // mind their order.
 pub fn measure_part(s: &[u8], at: usize, n: usize, voids: bool) -> Measured
     requires { FewWords s.now at n }
-    ensures sum_value { (result.sum ≡ sum_of (take (2 * n) (drop at s.now))) × (result.sum ≤ 510 * n) }
-    ensures allowed_value { result.allowed ≡ words_allowed voids s.now at n }
+    ensures summed { (result.sum ≡ sum_of (take (2 * n) (drop at s.now))) × (result.sum ≤ 510 * n) }
+    ensures allowed { result.allowed ≡ words_allowed voids s.now at n }
 {
     let turn = turn_for(voids);
     let mut highest: i16 = -32768;

@@ -1,4 +1,5 @@
 // One line for a verdict, on a file descriptor: what the programs print.
+#![tactic(auto)]
 use answers::Verdict;
 
 mod lines;

@@ -12,6 +12,7 @@ use octets::pastes::paste;
 const ROOM: usize = 72;
 
 #[derive(Drop)]
+#[derive(Clone, Copy)]
 pub struct Line {
     pub bytes: [u8; ROOM],
     pub length: usize,

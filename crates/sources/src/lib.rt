@@ -1,5 +1,6 @@
 // Where a writer's heights come from: a choice by value, beside the two slices that it may mean; the other one is empty. So one loop serves
 // every source.
+#![tactic(auto)]
 ghost use Rattle.std.specs.Prelude.{◌≡◌, ◌<◌};
 ghost use Rattle.sources.specs.Heights.{heights_from, count_of, nth_height, counts};
 
@@ -8,6 +9,7 @@ use octets::numbers::be16;
 use octets::twos::number_of;
 
 #[derive(Drop)]
+#[derive(Clone, Copy)]
 pub enum Source {
     // 16-bit numbers
     Numbers,

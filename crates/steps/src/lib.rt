@@ -1,4 +1,5 @@
 // Intake step by step: the headers, a piece for each column, then the rest. The state goes in and comes back by value.
+#![tactic(auto)]
 ghost use Rattle.std.specs.Prelude.{◌≡◌, ◌≤◌};
 ghost use Rattle.answers.specs.Told as told;
 ghost use Rattle.headers.specs.Judged.{judged};
@@ -15,6 +16,7 @@ use years::{Named, Year, year_of};
 
 // The columns still due: of which grid, and which is next.
 #[derive(Drop)]
+#[derive(Clone, Copy)]
 pub struct ColumnsDue {
     pub level: usize,
     pub edge: usize,
@@ -24,6 +26,7 @@ pub struct ColumnsDue {
 
 // What the next piece is for; before the first step, the rule year that was named.
 #[derive(Drop)]
+#[derive(Clone, Copy)]
 pub enum Phase {
     Headers(u32),
     Columns(ColumnsDue),
@@ -31,12 +34,14 @@ pub enum Phase {
 }
 
 #[derive(Drop)]
+#[derive(Clone, Copy)]
 pub struct Steps {
     pub phase: Phase,
 }
 
 // The new state, and what the step answers.
 #[derive(Drop)]
+#[derive(Clone, Copy)]
 pub struct Stepped {
     pub steps: Steps,
     pub answer: Verdict,
@@ -69,8 +74,8 @@ fn over(answer: Verdict) -> Stepped
 
 // The first step by the rules of a year.
 fn headers_step(year: Year, piece: &[u8]) -> Stepped
-    ensures answer_value { told.told told.intake result.answer ≡ said_of_headers (judged piece.now) }
-    ensures phase_value { result.steps.phase ≡ after_answer (due_after year (judged piece.now)) result.answer }
+    ensures answer { told.told told.intake result.answer ≡ said_of_headers (judged piece.now) }
+    ensures phase { result.steps.phase ≡ after_answer (due_after year (judged piece.now)) result.answer }
 {
     let judged = headers::judge::judge(piece);
     match judged {

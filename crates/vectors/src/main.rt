@@ -1,4 +1,5 @@
 // The examples that are run, not marked: whole cells streamed from the column writer, intake of the cell on standard input, changed in known ways, and the writer over heights.
+#![tactic(auto)]
 ghost use Rattle.std.specs.Prelude.{◌<◌};
 
 use description::{Accuracies, Accuracy, Datum, Description};

@@ -1,8 +1,10 @@
 // The rule year that a host names in a call: it decides where a cell may hold voids.
+#![tactic(auto)]
 ghost use Rattle.std.specs.Prelude.{◌≡◌};
 ghost use Rattle.years.specs.Years.{named_of};
 
 #[derive(Drop)]
+#[derive(Clone, Copy)]
 pub enum Year {
     One,
     Two,
@@ -10,6 +12,7 @@ pub enum Year {
 
 // What a number names: a year whose rules there are, or none.
 #[derive(Drop)]
+#[derive(Clone, Copy)]
 pub enum Named {
     Rule(Year),
     Unknown,
