@@ -1,0 +1,19 @@
+-- `judge_heights`: what is left after the parts so far answers as all heights.
+use Prim.Native.Nat.{◌+◌, ◌-◌, ◌≤◌}
+use native.Mathlib.Nat.{sub-zero}
+use native.Mathlib.Omega.{arith}
+use mathlib.Core.Path.{◌≡◌, sym, ◌∙◌}
+use borrow.Author.Rules.{rules}
+use borrow.Author.Tests.{not-false}
+use Rattle.sources.specs.Heights.{heights_from}
+use Rattle.column_writer.specs.Judged.{heights_from_then, heights_then, room_for}
+use Rattle.column_writer.proofs.HeightParts.{part_passed, all_passed}
+use Rattle.column_writer.proofs.judge.judge_heights.Given as goal
+
+abbrev pub invariant-loop-i : goal.invariant-loop-i
+invariant-loop-i l =
+    let g = heights_from l.source l.numbers l.bytes in
+    (l.i ≤ l.posts) × (heights_from_then l.voids g l.i (l.posts - l.i) (room_for l.due l.room) ≡ heights_then l.voids g l.posts (room_for l.due l.room))
+
+abbrev pub decreases-loop-i : goal.decreases-loop-i
+decreases-loop-i l = l.posts - l.i

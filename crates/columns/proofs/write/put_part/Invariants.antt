@@ -1,0 +1,13 @@
+-- `put_part`: the words of the first heights stand, and their sums are known.
+use Rattle.std.proofs.Common.{◌≡◌, ◌+◌, ◌-◌, ◌≤◌, ◌∙◌, arith, to_z-of_z, w16, to_z, of_z, rules}
+use Rattle.posts.specs.Heights.{word_of}
+use Rattle.sources.specs.Heights.{heights_from, nth_height}
+use Rattle.columns.proofs.WordParts.{Stand, none_stand, one_more}
+use Rattle.columns.proofs.write.put_part.Given as goal
+
+abbrev pub invariant-loop-i : goal.invariant-loop-i
+invariant-loop-i l =
+    (l.i ≤ l.n) × Stand l.initial.out l.at (heights_from l.source l.numbers l.bytes) l.first l.i l.out l.words l.highs
+
+abbrev pub decreases-loop-i : goal.decreases-loop-i
+decreases-loop-i l = l.n - l.i

@@ -1,0 +1,18 @@
+-- `put_areas`: the areas that are left give what all give.
+use Prim.Native.Nat.{ℕ, ◌+◌, ◌-◌, ◌≤◌}
+use Rattle.header_writer.proofs.TableTurns.{area_fits_lem, areas_on, areas_done}
+use Rattle.header_writer.specs.Written.{with_areas}
+use Rattle.fields.specs.Free.{areas}
+use Rattle.layout.specs.Grid.{header_bytes}
+use borrow.Author.Rules.{rules}
+use lib.ListN.{length, drop}
+use mathlib.Core.List.{List}
+use mathlib.Core.Path.{◌≡◌, refl, sym, ap, ◌∙◌}
+use native.Mathlib.Omega.{arith}
+use Rattle.header_writer.proofs.write.put_areas.Given as goal
+
+abbrev pub invariant-loop-i : goal.invariant-loop-i
+invariant-loop-i l = (l.i ≤ 4) × ((length l.head ≡ header_bytes) × (with_areas l.head (drop l.i areas) ≡ with_areas l.initial.head areas))
+
+abbrev pub decreases-loop-i : goal.decreases-loop-i
+decreases-loop-i l = 4 - l.i

@@ -1,0 +1,9 @@
+-- `put24` stores three bytes: a paste.
+use Rattle.octets.proofs.PasteLaws.{stores, two_on}
+use Rattle.octets.specs.Places.{places}
+use Rattle.std.proofs.Common.{add-one, arith, length-set, rules}
+use Rattle.octets.proofs.numbers.put24.Goals as goal
+
+pub returns : goal.returns
+unfolding places
+returns c = rw (add-one, two_on) (stores _ _ _ c.requires)
