@@ -7,7 +7,6 @@ ghost use Rattle.angles.specs.Angles.{form, angle_of, degrees_of, letter_of, is_
 use octets::choices::{both, either};
 
 // An axis: how many degrees lie before 0, and the letters on either side.
-#[derive(Drop)]
 #[derive(Clone, Copy)]
 pub struct Axis {
     pub most: usize,

@@ -22,7 +22,6 @@ const YEAR: u32 = 2;
 const BUFFER: usize = 7214;
 
 // What a piece was filled with: so many bytes, or what the call of read answered that failed.
-#[derive(Drop)]
 #[derive(Clone, Copy)]
 enum Filled {
     Bytes(usize),
@@ -30,7 +29,6 @@ enum Filled {
 }
 
 // What the input was found to be; unread, with what the call of read answered that failed.
-#[derive(Drop)]
 #[derive(Clone, Copy)]
 enum Found {
     Answer(Verdict),

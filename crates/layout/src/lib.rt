@@ -13,7 +13,6 @@ pub const DEGREE: usize = 36000;
 pub const HEADER_BYTES: usize = 3428;
 
 // Tenths of an arc-second between neighbouring posts of a column, and between neighbouring columns.
-#[derive(Drop)]
 #[derive(Clone, Copy)]
 pub struct Interval {
     pub latitude: usize,
@@ -21,7 +20,6 @@ pub struct Interval {
 }
 
 // Lengths in bytes.
-#[derive(Drop)]
 #[derive(Clone, Copy)]
 pub struct Bytes {
     pub column: usize,
@@ -29,7 +27,6 @@ pub struct Bytes {
 }
 
 // The grid of a cell: its columns, and the posts to a column.
-#[derive(Drop)]
 #[derive(Clone, Copy)]
 pub struct Grid {
     pub level: usize,
@@ -41,14 +38,12 @@ pub struct Grid {
 }
 
 // What the columns of a cell are held to: its grid, and whether it may hold voids.
-#[derive(Drop)]
 #[derive(Clone, Copy)]
 pub struct Frame {
     pub grid: Grid,
     pub voids: bool,
 }
 
-#[derive(Drop)]
 #[derive(Clone, Copy)]
 pub enum Laid {
     Out(Grid),

@@ -6,7 +6,6 @@ pub mod spans;
 pub mod words;
 
 // What one post says.
-#[derive(Drop)]
 #[derive(Clone, Copy)]
 pub enum Post {
     Height(i16),

@@ -3,7 +3,6 @@
 ghost use Rattle.std.specs.Prelude.{◌≡◌};
 ghost use Rattle.years.specs.Years.{named_of};
 
-#[derive(Drop)]
 #[derive(Clone, Copy)]
 pub enum Year {
     One,
@@ -11,7 +10,6 @@ pub enum Year {
 }
 
 // What a number names: a year whose rules there are, or none.
-#[derive(Drop)]
 #[derive(Clone, Copy)]
 pub enum Named {
     Rule(Year),
