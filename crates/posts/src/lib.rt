@@ -1,5 +1,6 @@
 // Posts: what a post word means, and which words and heights a cell may hold. No other crate knows the words.
 #![tactic(auto)]
+
 pub mod heights;
 pub mod parts;
 pub mod spans;
