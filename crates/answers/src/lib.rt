@@ -1,5 +1,6 @@
 // What the library's calls answer: refusals with their places, and the answers that carry one.
 #![tactic(auto)]
+
 ghost use Rattle.std.specs.Prelude.{◌≡◌};
 ghost use Rattle.answers.specs.Told.{numbered, refused};
 

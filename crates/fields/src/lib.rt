@@ -1,5 +1,6 @@
 // The fields of the headers, row by row in the order of judging: headers are judged and written by them.
 #![tactic(auto)]
+
 ghost use Rattle.std.specs.Prelude.{◌≡◌, ◌+◌, ◌<◌};
 ghost use Rattle.fields.specs.Table.{field_at};
 

@@ -1,5 +1,6 @@
 // Levels and latitude zones: what grid of posts a cell has, and how long its columns and the cell are.
 #![tactic(auto)]
+
 ghost use Rattle.std.specs.Prelude.{◌≡◌};
 ghost use Rattle.layout.specs.Grid.{grid_of, laid};
 ghost use Rattle.layout.specs.Asked.{HasGrid};

@@ -1,5 +1,6 @@
 // The rule year that a host names in a call: it decides where a cell may hold voids.
 #![tactic(auto)]
+
 ghost use Rattle.std.specs.Prelude.{◌≡◌};
 ghost use Rattle.years.specs.Years.{named_of};
 
