@@ -1,6 +1,5 @@
 -- `put`: a paste over the whole.
 use Rattle.octets.proofs.PasteLaws.{paste_all}
-use borrow.Author.Rules.{rules}
 use mathlib.Core.Path.{sym, ◌∙◌}
 use Rattle.due.proofs.put.put.Goals as goal
 

@@ -1,12 +1,7 @@
 -- `put_due`: one arm to what is due.
-use borrow.Author.Rules.{rules}
-use Prim.Native.Nat.{suc, ◌+◌}
-use lib.ListN.{length}
-use mathlib.Core.Path.{sym, ap, ◌∙◌}
+use mathlib.Core.Path.{ap, ◌∙◌}
 use Rattle.octets.specs.Digits.{digits_of}
-use native.Mathlib.Omega.{arith}
-use Rattle.due.specs.Due.{form_of, due_angle_text, due_text, due_width}
-use Rattle.due.proofs.DueWidths.{due_angle_wide}
+use Rattle.due.specs.Due.{due_angle_text, due_text}
 use Rattle.due.proofs.put.put_due.Goals as goal
 
 pub returns-in-Text : goal.returns-in-Text

@@ -1,7 +1,6 @@
 -- `put_number`: a paste over the whole.
 use Rattle.octets.proofs.DigitLaws.{length_digits}
 use Rattle.octets.proofs.PasteLaws.{paste_all}
-use borrow.Author.Rules.{rules}
 use mathlib.Core.Path.{sym, ◌∙◌}
 use Rattle.due.proofs.put.put_number.Goals as goal
 

@@ -5,7 +5,6 @@ use Rattle.octets.proofs.DigitLaws.{length_digits}
 use Rattle.octets.specs.Digits.{digits_of}
 use Rattle.octets.specs.Pastes.{pasted}
 use Rattle.octets.specs.Texts.{ascii}
-use borrow.Author.Rules.{rules}
 use mathlib.Core.List.{List}
 use mathlib.Core.Path.{ap, ◌∙◌}
 use native.Mathlib.Omega.{arith}
