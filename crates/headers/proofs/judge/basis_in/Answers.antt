@@ -2,7 +2,6 @@
 use Rattle.headers.specs.Basis.{latitude_in, basis_in}
 use Rattle.headers.proofs.FirstFour.{level_below}
 use Rattle.layout.proofs.NearEdges.{edge_below}
-use borrow.Author.Rules.{rules}
 use Rattle.headers.proofs.judge.basis_in.Goals as goal
 
 pub grid_of-grid-requires : goal.grid_of-grid-requires

@@ -1,8 +1,6 @@
 -- `broken`: the row that was read, and its bytes.
-use mathlib.Core.Path.{◌∙◌}
 use native.Mathlib.Omega.{arith}
-use Rattle.headers.proofs.TableRows.{Row, row_is, row_bytes, row_within, row_broken}
-use borrow.Author.Rules.{rules}
+use Rattle.headers.proofs.TableRows.{Row, row_is, row_bytes, row_within}
 use Rattle.headers.proofs.judge.broken.Goals as goal
 use Rattle.headers.proofs.judge.broken.Goals.{After-row-field}
 

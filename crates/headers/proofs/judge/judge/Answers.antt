@@ -6,7 +6,6 @@ use Rattle.headers.specs.Judged.{facts_in}
 use Rattle.due.specs.Due.{nothing}
 use Rattle.headers.specs.declared.JudgedHeaders.TheVariants.{Good, Refused}
 use native.Mathlib.Omega.{arith}
-use borrow.Author.Rules.{rules}
 use Rattle.headers.proofs.Exactly.{judged_short}
 use mathlib.Core.Path.{◌≡◌, refl, sym, ap, ◌∙◌}
 use mathlib.Core.Bool.{true}

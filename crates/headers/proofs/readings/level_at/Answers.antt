@@ -1,6 +1,5 @@
 -- `level_at`: the first interval that stands.
 use Rattle.headers.specs.Basis.{level_at}
-use borrow.Author.Rules.{rules}
 use mathlib.Core.Path.{sym, ◌∙◌}
 use Rattle.headers.proofs.readings.level_at.Goals as goal
 

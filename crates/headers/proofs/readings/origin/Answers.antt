@@ -1,5 +1,4 @@
 -- `origin`: from the part that is its field.
-use borrow.Author.Rules.{rules}
 use Prim.Native.Nat.{ℕ}
 use lib.ListN.{take, drop}
 use mathlib.Core.Path.{ap, ◌∙◌}

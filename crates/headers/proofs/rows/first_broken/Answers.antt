@@ -1,9 +1,7 @@
 -- `first_broken`: the rows that are left are searched as all are.
-use Prim.Native.Nat.{◌-◌, ◌≤◌}
-use Rattle.headers.proofs.BrokenRows.{first_in, search_stop, search_on, search_done}
-use borrow.Author.Rules.{rules}
+use Rattle.headers.proofs.BrokenRows.{search_stop, search_on, search_done}
 use borrow.Author.Tests.{not-true, not-false}
-use mathlib.Core.Path.{◌≡◌, refl, sym, ◌∙◌}
+use mathlib.Core.Path.{sym, ◌∙◌}
 use native.Mathlib.Omega.{arith}
 use Rattle.headers.proofs.rows.first_broken.Goals as goal
 

@@ -1,5 +1,4 @@
 -- `four_keep`: row after row.
-use borrow.Author.Rules.{rules}
 use mathlib.Core.Path.{sym}
 use Rattle.headers.proofs.KeptRows.{kept_four}
 use Rattle.headers.proofs.rows.four_keep.Goals as goal

@@ -1,5 +1,4 @@
 -- `rest_keep`: four rows after four.
-use borrow.Author.Rules.{rules}
 use mathlib.Core.Path.{sym}
 use Rattle.headers.proofs.KeptRows.{kept_rest}
 use Rattle.headers.proofs.rows.rest_keep.Goals as goal

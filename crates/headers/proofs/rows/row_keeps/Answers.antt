@@ -1,8 +1,6 @@
 -- `row_keeps`: the row that was read, and its bytes.
-use borrow.Author.Rules.{rules}
-use mathlib.Core.Path.{◌∙◌}
 use native.Mathlib.Omega.{arith}
-use Rattle.headers.proofs.TableRows.{Row, row_is, row_bytes, row_kept}
+use Rattle.headers.proofs.TableRows.{Row, row_is, row_bytes}
 use Rattle.headers.proofs.rows.row_keeps.Goals as goal
 use Rattle.headers.proofs.rows.row_keeps.Goals.{After-row-field}
 
