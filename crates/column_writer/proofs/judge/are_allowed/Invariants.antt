@@ -21,7 +21,7 @@ use Rattle.column_writer.proofs.judge.are_allowed.Given as goal
 abbrev pub invariant-loop-i : goal.invariant-loop-i
 invariant-loop-i l =
     let g = heights_from l.source l.numbers l.bytes in
-    (l.i ≤ l.n) × (both (span_in_range (to_z w16 l.lowest) (to_z w16 l.highest)) (heights_allowed l.voids g (l.from + l.i) (l.n - l.i)) ≡ heights_allowed l.voids g l.from l.n)
+    (l.i ≤ l.n) × (both (span_in_range l.lowest l.highest) (heights_allowed l.voids g (l.from + l.i) (l.n - l.i)) ≡ heights_allowed l.voids g l.from l.n)
 
 abbrev pub decreases-loop-i : goal.decreases-loop-i
 decreases-loop-i l = l.n - l.i
