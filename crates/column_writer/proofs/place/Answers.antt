@@ -2,7 +2,6 @@
 use Rattle.layout.specs.Grid.{grid_of}
 use Rattle.column_writer.proofs.NumberExactly.{no_level, off_grid, on_grid}
 use mathlib.Core.Path.{sym}
-use native.Mathlib.Omega.{arith}
 use Rattle.column_writer.proofs.place.Goals as goal
 
 pub returns-then-level-ge3 : goal.returns-then-level-ge3

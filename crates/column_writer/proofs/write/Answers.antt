@@ -4,7 +4,6 @@ use Rattle.sources.specs.Heights.{numbers}
 use Rattle.sources.proofs.HeightLaws.{numbers_are}
 use Rattle.column_writer.specs.Column.{judged_column_write, column_told_from, column_output_from, column_told, column_output}
 use Rattle.column_writer.specs.Judged.{output_after}
-use borrow.Author.Rules.{rules}
 use lib.IntN.{ℤ}
 use lib.ListN.{length}
 use mathlib.Core.List.{List}

@@ -8,7 +8,7 @@ use Rattle.columns.proofs.ColumnHeights.{length_written}
 use Rattle.layout.specs.declared.Grid.{Grid}
 use Rattle.layout.specs.Ranges.{Ranged}
 use Rattle.octets.proofs.PasteLaws.{length_part}
-use Rattle.sources.specs.Heights.{Heights, heights_from, count_of, heights_of}
+use Rattle.sources.specs.Heights.{Heights, heights_from, heights_of}
 use Rattle.sources.proofs.HeightLaws.{counted, heights_counted, all_words}
 use Rattle.column_writer.proofs.ColumnExactly.{judged_on}
 use Rattle.column_writer.proofs.PostsExactly.{Fine, posts_fine}
@@ -18,11 +18,9 @@ use Rattle.column_writer.specs.Column.{placed, after_number, judged_column_write
 use Rattle.column_writer.specs.Judged.{judged_posts, output_after}
 use Rattle.column_writer.specs.declared.Placed.{Placed}
 use Rattle.column_writer.specs.declared.Placed.TheVariants.{On}
-use borrow.Author.Rules.{rules}
 use lib.ListN.{length}
 use mathlib.Core.Bool.{true}
-use mathlib.Core.List.{List}
-use mathlib.Core.Path.{◌≡◌, refl, sym, ap, ◌∙◌}
+use mathlib.Core.Path.{◌≡◌, sym, ap, ◌∙◌}
 use native.Mathlib.Omega.{arith}
 use Rattle.column_writer.proofs.write_from.Goals as goal
 
@@ -79,9 +77,9 @@ returns-in-Done-clause-lent c =
     let n = counted source g.posts accepted.long in
     let long : length column ≡ g.bytes.column = length_written a.number (heights_of source) ∙ omega (arith, heights_counted source, n, ranged.column) in
     front_put a.out.now column c.put_column.new.out g.bytes.column long
-        (c.put_column.ensures ∙ ap (column_of_words a.number) (all_words source g.posts n))
+    (c.put_column.ensures ∙ ap (column_of_words a.number) (all_words source g.posts n))
     ∙ ap (λ (x : Outcome). output_after x column a.out.now)
-        (sym c.in-Done.is ∙ judged_is a.level a.number _ g c.place.ensures c.in-On.is source _ _ c.judge_posts-judged.ensures)
+    (sym c.in-Done.is ∙ judged_is a.level a.number _ g c.place.ensures c.in-On.is source _ _ c.judge_posts-judged.ensures)
 
 pub returns-in_default-clause-answer : goal.returns-in_default-clause-answer
 unfolding column_told_from
@@ -94,7 +92,7 @@ returns-in_default-clause-lent c =
     let a = c.args in
     let source = heights_from a.source a.numbers.now a.bytes.now in
     ap (λ (x : Outcome). output_after x (column_of a.number (heights_of source)) a.out.now)
-        (sym c.in_default.is ∙ judged_is a.level a.number _ c.in-On.grid c.place.ensures c.in-On.is source _ _ c.judge_posts-judged.ensures)
+    (sym c.in_default.is ∙ judged_is a.level a.number _ c.in-On.grid c.place.ensures c.in-On.is source _ _ c.judge_posts-judged.ensures)
 
 pub returns-in-Refused-clause-answer : goal.returns-in-Refused-clause-answer
 unfolding column_told_from judged_column_write after_number

@@ -1,9 +1,9 @@
 -- `judge`: what is left of the words answers as the whole column.
-use Rattle.std.proofs.Common.{◌≡◌, ◌-◌, ◌≤◌, sym, ◌∙◌, arith, rules}
+use Rattle.std.proofs.Common.{◌≡◌, sym, ◌∙◌, arith, rules}
 use Rattle.columns.proofs.WordSearch.{word_on, word_stop, words_end, searched_from, starts_within}
 use Rattle.posts.specs.Words.{word_allowed}
 use Rattle.columns.specs.Column.{word_in}
-use Rattle.columns.specs.Judged.{words_from, judged_column}
+use Rattle.columns.specs.Judged.{judged_column}
 use borrow.Author.Tests.{not-true, not-false}
 use Rattle.columns.proofs.judge.Goals as goal
 use Rattle.columns.proofs.judge.Goals.{After-is_allowed}

@@ -1,6 +1,6 @@
 -- `judge_head`: each test in its turn settles the ladder.
 use Rattle.columns.specs.Judged.{head_of}
-use Rattle.std.proofs.Common.{rules, eq-eqb, ne_eqb}
+use Rattle.std.proofs.Common.{eq-eqb, ne_eqb}
 use Rattle.columns.proofs.judge_head.Goals as goal
 
 pub returns-then-column : goal.returns-then-column

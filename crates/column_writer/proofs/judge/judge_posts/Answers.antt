@@ -1,6 +1,4 @@
 -- `judge_posts`: how many are given, then each of them and the room.
-use Rattle.sources.specs.Heights.{heights_from}
-use Rattle.sources.proofs.HeightLaws.{counts_only, counted}
 use Rattle.column_writer.specs.Judged.{judged_posts}
 use borrow.Author.Rules.{rules}
 use borrow.Author.Tests.{not-true, not-false}

@@ -1,10 +1,8 @@
 -- `measure`: the parts so far, and what is left, are the whole column.
-use Rattle.std.proofs.Common.{◌≡◌, ℕ, ◌+◌, ◌-◌, ◌*◌, ◌≤◌, Bool, List, take, drop, ◌∙◌, zero-add, arith, rules}
+use Rattle.std.proofs.Common.{◌≡◌, ◌+◌, ◌-◌, ◌*◌, take, drop, ◌∙◌, zero-add, arith}
 use native.Mathlib.Nat.{sub-zero}
-use Rattle.octets.specs.Choice.{both}
 use Rattle.octets.specs.Sums.{sum_of}
 use Rattle.octets.proofs.SumLaws.{sum_parts}
-use Rattle.posts.specs.Words.{words_allowed}
 use Rattle.posts.proofs.PartLaws.{part_on}
 use Rattle.columns.proofs.measure.measure.Goals as goal
 

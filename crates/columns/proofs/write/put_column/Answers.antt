@@ -1,5 +1,5 @@
 -- `put_column`: preamble and words, then the sum of what stands before the checksum.
-use Rattle.std.proofs.Common.{◌≡◌, ℕ, ◌+◌, List, length, take, sym, ap, ◌∙◌, arith, length-take-le, rules}
+use Rattle.std.proofs.Common.{◌≡◌, ℕ, ◌+◌, List, take, ap, ◌∙◌, arith}
 use Rattle.columns.proofs.WordParts.{sum_most}
 use Rattle.columns.proofs.WrittenColumn.{preamble_there, preamble_most, column_put}
 use Rattle.columns.specs.Column.{preamble, sum_at}

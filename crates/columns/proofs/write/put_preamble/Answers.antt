@@ -1,5 +1,5 @@
 -- `put_preamble`: four pastes, one after the other.
-use Rattle.std.proofs.Common.{◌≡◌, ℕ, List, length, ap, ◌∙◌, arith, length-set, rules}
+use Rattle.std.proofs.Common.{ℕ, List, ap, ◌∙◌}
 use Rattle.columns.proofs.WrittenColumn.{preamble_put}
 use Rattle.octets.specs.Numbers.{bytes_of}
 use Rattle.octets.specs.Pastes.{pasted}

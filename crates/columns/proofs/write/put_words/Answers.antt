@@ -1,6 +1,6 @@
 -- `put_words`: the words of the parts so far stand, and the sum of their bytes is known.
-use Rattle.std.proofs.Common.{◌≡◌, ℕ, ◌+◌, ◌-◌, ◌*◌, ◌≤◌, arith, rules}
-use Rattle.sources.specs.Heights.{Heights, heights_from}
+use Rattle.std.proofs.Common.{◌≡◌, ◌+◌, ◌-◌, ◌*◌, ◌≤◌, arith}
+use Rattle.sources.specs.Heights.{heights_from}
 use Rattle.columns.proofs.WordParts.{Summed, none_summed, part_more, sum_most}
 use Rattle.columns.proofs.write.put_words.Goals as goal
 use Rattle.columns.proofs.write.put_words.Goals.{After-put_part, After-put_part-sum}
