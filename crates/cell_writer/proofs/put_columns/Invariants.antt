@@ -16,7 +16,7 @@ use native.Mathlib.Omega.{arith}
 use Rattle.cell_writer.proofs.put_columns.Given as goal
 
 pub record Inv (out₀ : List ℕ) (columns posts : ℕ) (g : Heights) (out : List ℕ) (k at from : ℕ) : Type 0 where
-  so_far : SoFar posts columns (words_of (heights_of g)) out₀ out k at
+  pub so_far : SoFar posts columns (words_of (heights_of g)) out₀ out k at
   from-part : from ≡ k * posts
 
 abbrev pub invariant-loop-k : goal.invariant-loop-k
