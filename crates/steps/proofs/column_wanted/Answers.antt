@@ -4,8 +4,7 @@ use Rattle.layout.specs.Grid.{laid}
 use Rattle.layout.specs.declared.Laid.TheVariants.{Out}
 use Rattle.steps.proofs.Pieces.{laid_ranged}
 use borrow.Author.Rules.{rules}
-use borrow.Author.Tests.{lt-ltb, le-ltb}
-use lib.Dec.{lit≤}
+use borrow.Author.Tests.{lt-ltb}
 use mathlib.Core.Path.{◌≡◌, sym, ◌∙◌}
 use native.Mathlib.Omega.{arith}
 use Rattle.steps.proofs.column_wanted.Goals as goal
@@ -21,4 +20,5 @@ within c =
 
 pub returns-then-due-grid : goal.returns-then-due-grid
 returns-then-due-grid c =
-    (rw (out c, lt-ltb _ _ c.if-due-grid.true), omega (arith, within c))
+    let k = (goal.at.returns-then-due-grid c).In-Out in
+    (rw (out k, lt-ltb _ _ c.if-due-grid.true), omega (arith, within k))

@@ -12,4 +12,4 @@ within c =
     laid_ranged a.due.level a.due.edge _ (sym c.lay-laid.ensures ∙ c.in-Out.is)
 
 pub column_answer-requires : goal.column_answer-requires
-column_answer-requires c = within c
+column_answer-requires c = within (goal.at.column_answer-requires c).In-Out

@@ -1,12 +1,10 @@
 -- `column_answer`: by whether a column is due, whether the piece is long enough, and how it is judged.
-use Rattle.cells.proofs.ColumnPlaces.{start_small}
 use Rattle.answers.specs.Told.{more}
 use Rattle.columns.specs.declared.JudgedColumn.{JudgedColumn}
 use Rattle.intake.specs.Intake.{or_rest}
 use Rattle.steps.proofs.Pieces.{piece_past, piece_short, piece_judged}
 use Rattle.steps.specs.Steps.{said_of_column}
 use borrow.Author.Rules.{rules}
-use lib.Seq.{length-take-le}
 use mathlib.Core.Path.{◌≡◌, sym, ◌∙◌}
 use native.Mathlib.Omega.{arith}
 use Rattle.steps.proofs.piece.column_answer.Goals as goal
@@ -14,11 +12,11 @@ use Rattle.steps.proofs.piece.column_answer.Goals.{After-judge-judged}
 
 -- where the column was judged x, the answer goes by x
 judged-as : (c : After-judge-judged) (x : JudgedColumn) → c.judge-judged.result ≡ x →
-    let a = c.??before in
+    let a = c.args in
     said_of_column a.frame a.next a.piece.now ≡ or_rest x more
 judged-as c x q =
-    let a = c.??before in
-    piece_judged a.frame a.next a.piece.now c.if1.false{-?-} c.if2.false{-?-} x (rw c.judge-judged.ensures at q)
+    let a = c.args in
+    piece_judged a.frame a.next a.piece.now c.if-grid-next.false c.if-piece-size.false x (rw c.judge-judged.ensures at q)
 
 pub returns-then-grid-next : goal.returns-then-grid-next
 returns-then-grid-next c =
