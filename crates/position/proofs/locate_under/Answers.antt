@@ -14,7 +14,7 @@ good c = sym c.judge-judged.ensures ∙ c.in-Good.is
 
 pub locate_in-requires : goal.locate_in-requires
 locate_in-requires c =
-    let f = good_facts c.args.cell.now _ (good c) in
+    let f = good_facts c.args.cell.now _ (good (goal.at.locate_in-requires c).In-Good) in
     record { grid = f.grid; latitude = f.latitude; longitude = f.longitude }
 
 pub returns-in-Good : goal.returns-in-Good

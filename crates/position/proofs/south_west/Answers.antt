@@ -21,12 +21,12 @@ eastward c = rw (to_z-of_z c.ranges.longitude) at c.from_corner-east.ensures
 pub returns-in-On-east : goal.returns-in-On-east
 unfolding south_west
 returns-in-On-east c =
-    rw (sym (northward (goal.at.returns-in-On-east c).After-from_corner-north) ∙ c.in-On.is, sym (eastward c) ∙ c.in-On-east.is)
+    rw (sym (northward (goal.at.returns-in-On-east c).After-from_corner-north) ∙ c.in-On.is, sym (eastward (goal.at.returns-in-On-east c).After-from_corner-east) ∙ c.in-On-east.is)
 
 pub returns-in-Off-east : goal.returns-in-Off-east
 unfolding south_west
 returns-in-Off-east c =
-    rw (sym (northward (goal.at.returns-in-Off-east c).After-from_corner-north) ∙ c.in-On.is, sym (eastward c) ∙ c.in-Off-east.is)
+    rw (sym (northward (goal.at.returns-in-Off-east c).After-from_corner-north) ∙ c.in-On.is, sym (eastward (goal.at.returns-in-Off-east c).After-from_corner-east) ∙ c.in-Off-east.is)
 
 pub returns-in-Off : goal.returns-in-Off
 unfolding south_west
