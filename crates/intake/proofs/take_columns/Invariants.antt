@@ -22,16 +22,16 @@ use Rattle.intake.proofs.take_columns.Given as goal
 
 -- from column k on, at its start, what is left answers as the whole
 pub record ColumnsLeft (cell : List ℕ) (f : Frame) (k base : ℕ) : Type 0 where
-  due : k ≤ f.grid.columns
-  start : base ≡ start_of f.grid k
-  there : base ≤ length cell
-  left : columns_from cell f k (f.grid.columns - k) ≡ columns_from cell f 0 f.grid.columns
+  pub due : k ≤ f.grid.columns
+  pub start : base ≡ start_of f.grid k
+  pub there : base ≤ length cell
+  pub left : columns_from cell f k (f.grid.columns - k) ≡ columns_from cell f 0 f.grid.columns
 
 -- and within column k, from word i on
 pub record WordsLeft (cell : List ℕ) (f : Frame) (k base : ℕ) (column : List ℕ) (i : ℕ) : Type 0 where
-  due : i ≤ f.grid.posts
-  long : length column ≡ f.grid.bytes.column
-  left : or_rest (words_from column f.voids base i (f.grid.posts - i)) (columns_from cell f (k + 1) (f.grid.columns - (k + 1)))
+  pub due : i ≤ f.grid.posts
+  pub long : length column ≡ f.grid.bytes.column
+  pub left : or_rest (words_from column f.voids base i (f.grid.posts - i)) (columns_from cell f (k + 1) (f.grid.columns - (k + 1)))
       ≡ columns_from cell f 0 f.grid.columns
 
 abbrev pub invariant-loop-i : goal.invariant-loop-i
