@@ -18,7 +18,7 @@ use Rattle.faults.specs.Ever.{in_zones}
 use Rattle.faults.proofs.ever.in_zones.Given as goal
 
 abbrev pub invariant-loop-zone : goal.invariant-loop-zone
-invariant-loop-zone l = (l.zone ≤ 5) × (some_below (has l.name l.level l.v) l.zone ≡ false)
+invariant-loop-zone l = (l.zone ≤ 5) × (some_below (λ (zone : ℕ). eqb (number_of l.name (grid_of l.level (last_edge zone))) l.v) l.zone ≡ false)
 
 abbrev pub decreases-loop-zone : goal.decreases-loop-zone
 decreases-loop-zone l = 5 - l.zone
