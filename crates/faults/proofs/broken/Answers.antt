@@ -1,10 +1,8 @@
 -- `broken`: the place, then by the kind.
 use Prim.Native.Nat.{ℕ, ◌+◌}
 use mathlib.Core.Path.{ap, ◌∙◌}
-use Rattle.rules.specs.Rules.{width_of}
 use Rattle.faults.specs.Fault.{due_fault}
 use Rattle.faults.specs.Fault.{fault}
-use borrow.Author.Rules.{rules}
 use Rattle.faults.proofs.broken.Goals as goal
 
 pub returns-in-Item : goal.returns-in-Item

@@ -1,6 +1,5 @@
 -- `in_table`: the three levels, joined.
 use Rattle.faults.specs.Ever.{in_table}
-use borrow.Author.Rules.{rules}
 use Rattle.faults.proofs.ever.in_table.Goals as goal
 
 pub returns : goal.returns

@@ -1,19 +1,15 @@
 -- `is_angle`: the form, and what is named in it, by what is due at the first origin.
-use Prim.Native.Nat.{ℕ, ◌+◌, ◌-◌, ◌^◌, ◌<◌, ◌≤◌}
+use Prim.Native.Nat.{ℕ, ◌+◌, ◌-◌}
 use native.Mathlib.Omega.{arith}
 use mathlib.Core.Path.{◌≡◌, ap, ◌∙◌}
-use lib.Dec.{lit≤}
 use lib.ListN.{length, get_or}
 use Rattle.octets.specs.Choice.{both}
 use Rattle.octets.specs.Digits.{decimal_at}
 use Rattle.angles.specs.Angles.{is_angle, degrees_in, letter_in}
-use Rattle.fields.specs.declared.Angle.{Angle}
-use Rattle.fields.specs.declared.Angle.TheVariants as angle
 use Rattle.due.specs.Due.{nothing, due_angle, form_of}
 use Rattle.due.specs.declared.due_angles.DueAngle.{DueAngle}
 use Rattle.due.proofs.DueWidths.{due_angle_wide}
 use Rattle.faults.specs.Ever.{is_some_name, is_some_angle}
-use borrow.Author.Rules.{rules}
 use Rattle.faults.proofs.ever.is_angle.Goals as goal
 
 pub returns : goal.returns
