@@ -1,6 +1,5 @@
 -- `accuracy_at`: metres where digits stand.
 use Rattle.description.specs.Described.{accuracy_at}
-use borrow.Author.Rules.{rules}
 use Rattle.description.specs.declared.Accuracy.TheVariants.{Metres}
 use mathlib.Core.Path.{sym, ap, ◌∙◌}
 use Rattle.description.proofs.describe.accuracy_at.Goals as goal

@@ -1,6 +1,5 @@
 -- `datum_at`: the text stands, or the other one is due.
 use Rattle.description.specs.Described.{datum_at}
-use borrow.Author.Rules.{rules}
 use mathlib.Core.Path.{sym, ◌∙◌}
 use Rattle.description.proofs.describe.datum_at.Goals as goal
 

@@ -2,7 +2,6 @@
 use Rattle.headers.proofs.Exactly.{good_follows}
 use Rattle.description.specs.Described.{described}
 use Rattle.description.specs.declared.Described.TheVariants.{As}
-use borrow.Author.Rules.{rules}
 use mathlib.Core.Path.{sym, ap, ◌∙◌}
 use Rattle.description.proofs.describe.describe.Goals as goal
 

@@ -1,5 +1,4 @@
 -- `items_in`: each item from its field.
-use borrow.Author.Rules.{rules}
 use lib.ListN.{get_or}
 use Rattle.fields.specs.Table.{place_of}
 use Rattle.fields.specs.declared.Item.TheVariants.{Version}

@@ -1,7 +1,6 @@
 -- `facts_for`: a description in range has a grid.
 use Rattle.description.proofs.LaidGrids.{edge_within}
 use Rattle.description.specs.Facts.{basis_of, facts_for}
-use borrow.Author.Rules.{rules}
 use Rattle.description.proofs.facts.facts_for.Goals as goal
 
 pub grid_of-requires : goal.grid_of-requires

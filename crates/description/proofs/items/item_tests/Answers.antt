@@ -1,6 +1,5 @@
 -- `item_tests`: each test is the definition's.
 use Rattle.description.specs.Items.{item_tests}
-use borrow.Author.Rules.{rules}
 use Rattle.description.proofs.items.item_tests.Goals as goal
 
 pub returns : goal.returns
