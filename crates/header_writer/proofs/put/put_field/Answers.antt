@@ -1,7 +1,5 @@
 -- `put_field`: by the kind.
-use borrow.Author.Rules.{rules}
 use mathlib.Core.Path.{ap, ◌∙◌}
-use Rattle.due.specs.Due.{due_text}
 use Rattle.rules.specs.Rules.{width_of}
 use Rattle.header_writer.proofs.TableTurns.{origin_of}
 use Rattle.header_writer.proofs.put.put_field.Goals as goal

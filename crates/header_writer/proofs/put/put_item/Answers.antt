@@ -1,10 +1,7 @@
 -- `put_item`: arm by arm.
-use borrow.Author.Rules.{rules}
 use mathlib.Core.Path.{ap, ◌∙◌}
-use native.Mathlib.Omega.{arith}
 use Rattle.octets.specs.Digits.{digits_of}
 use Rattle.due.specs.declared.Basis.{Basis}
-use Rattle.rules.specs.Rules.{item_width}
 use Rattle.header_writer.specs.Written.{accuracy_text, item_text}
 use Rattle.header_writer.proofs.put.put_item.Goals as goal
 

@@ -1,10 +1,7 @@
 -- `put_security`: a byte, and blanks after it.
 use Rattle.octets.proofs.PutLaws.{put_byte}
 use Rattle.octets.specs.Texts.{ascii}
-use borrow.Author.Rules.{rules}
-use lib.ListN.{length-set}
 use mathlib.Core.Path.{◌∙◌}
-use native.Mathlib.Omega.{arith}
 use Rattle.header_writer.proofs.put.put_security.Goals as goal
 
 pub returns : goal.returns

@@ -2,7 +2,6 @@
 use Prim.Native.Nat.{ℕ}
 use Rattle.fields.specs.Table.{fields}
 use Rattle.header_writer.specs.Written.{with_fields, headers_for}
-use borrow.Author.Rules.{rules}
 use mathlib.Core.List.{List}
 use mathlib.Core.Path.{ap, ◌∙◌}
 use Rattle.header_writer.proofs.write.put_all.Goals as goal

@@ -1,13 +1,11 @@
 -- `put_areas`: the areas that are left give what all give.
-use Prim.Native.Nat.{ℕ, ◌+◌, ◌-◌, ◌≤◌}
-use Rattle.header_writer.proofs.TableTurns.{area_fits_lem, areas_on, areas_done}
+use Prim.Native.Nat.{ℕ, ◌+◌}
+use Rattle.header_writer.proofs.TableTurns.{areas_on, areas_done}
 use Rattle.header_writer.specs.Written.{with_areas}
 use Rattle.fields.specs.Free.{areas}
-use Rattle.layout.specs.Grid.{header_bytes}
-use borrow.Author.Rules.{rules}
-use lib.ListN.{length, drop}
+use lib.ListN.{drop}
 use mathlib.Core.List.{List}
-use mathlib.Core.Path.{◌≡◌, refl, sym, ap, ◌∙◌}
+use mathlib.Core.Path.{sym, ap, ◌∙◌}
 use native.Mathlib.Omega.{arith}
 use Rattle.header_writer.proofs.write.put_areas.Goals as goal
 

@@ -1,14 +1,9 @@
 -- `put_fields`: the fields that are left give what all give.
-use Prim.Native.Nat.{◌+◌, ◌-◌, ◌≤◌}
+use Prim.Native.Nat.{◌+◌}
 use Rattle.header_writer.proofs.TableTurns.{fields_turn, fields_done}
 use Rattle.headers.proofs.TableRows.{Row, row}
-use Rattle.fields.specs.Table.{fields}
-use Rattle.header_writer.specs.Written.{with_fields}
 use Rattle.octets.proofs.PasteLaws.{length_part}
-use Rattle.layout.specs.Grid.{header_bytes}
-use borrow.Author.Rules.{rules}
-use lib.ListN.{length, drop}
-use mathlib.Core.Path.{◌≡◌, refl, sym, ◌∙◌}
+use mathlib.Core.Path.{sym, ◌∙◌}
 use native.Mathlib.Omega.{arith}
 use Rattle.header_writer.proofs.write.put_fields.Goals as goal
 use Rattle.header_writer.proofs.write.put_fields.Goals.{After-row-field}

@@ -6,7 +6,6 @@ use Rattle.octets.proofs.PasteLaws.{paste_all}
 use Rattle.octets.specs.Pastes.{pasted}
 use Rattle.octets.specs.Texts.{ascii}
 use Rattle.layout.specs.Grid.{header_bytes}
-use borrow.Author.Rules.{rules}
 use lib.ListN.{replicate, length-replicate}
 use mathlib.Core.List.{List}
 use mathlib.Core.Path.{sym, ap, ◌∙◌}

@@ -1,9 +1,7 @@
 -- `put_headers`: the headers stand at the front.
 use Rattle.description.proofs.RangedItems.{ranged_items}
-use Rattle.header_writer.proofs.WrittenLength.{headers_over}
 use Rattle.octets.proofs.PasteLaws.{length_part}
 use Rattle.header_writer.proofs.TableTurns.{basis_is}
-use borrow.Author.Rules.{rules}
 use native.Mathlib.Omega.{arith}
 use Rattle.header_writer.proofs.write.put_headers.Goals as goal
 
