@@ -6,7 +6,6 @@ use Rattle.fields.specs.declared.Item.TheVariants as items
 use Rattle.host_items.proofs.NumberRanges.{from_zero, letters, versions, passes_byte}
 use Rattle.host_items.proofs.RangedNumbers.{ranged_numbers}
 use Rattle.host_items.specs.Items.{item, item_in, number_test, description_of}
-use borrow.Author.Rules.{rules}
 use mathlib.Core.Path.{◌≡◌}
 use mathlib.Core.Bool.{true}
 use native.Mathlib.Omega.{arith}

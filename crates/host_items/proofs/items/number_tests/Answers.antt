@@ -1,5 +1,4 @@
 -- `number_tests`: each test is the definition's.
-use borrow.Author.Rules.{rules}
 use Rattle.host_items.specs.Items.{number_tests}
 use Rattle.host_items.proofs.items.number_tests.Goals as goal
 

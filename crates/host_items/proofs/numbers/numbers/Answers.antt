@@ -1,7 +1,6 @@
 -- `numbers`: each item is what the definition says of it.
 use Rattle.description.proofs.RangedItems.{RangedItems, ranged_items}
 use Rattle.host_items.specs.Items.{numbers_of}
-use borrow.Author.Rules.{rules}
 use lib.IntN.{ℤ}
 use mathlib.Core.Path.{◌≡◌, ◌∙◌}
 use mir.Facts.{to_z-of_z}
