@@ -1,9 +1,15 @@
 -- `put_words`: the words of the parts so far stand, and the sum of their bytes is known.
-use Rattle.std.proofs.Common.{◌≡◌, ◌+◌, ◌-◌, ◌*◌, ◌≤◌, arith}
-use Rattle.sources.specs.Heights.{heights_from}
+use Rattle.std.proofs.Common.{◌≡◌, ℕ, ◌+◌, ◌-◌, ◌*◌, ◌≤◌, arith}
+use Rattle.octets.specs.Numbers.{bytes_of_words}
+use Rattle.octets.specs.Sums.{sum_of}
+use Rattle.sources.specs.Heights.{Heights, heights_from, height_words}
 use Rattle.columns.proofs.WordParts.{Summed, none_summed, part_more, sum_most}
 use Rattle.columns.proofs.write.put_words.Goals as goal
 use Rattle.columns.proofs.write.put_words.Goals.{After-put_part, After-put_part-sum}
+
+-- what a part's sum is at most, however many words it has
+most : (g : Heights) (first n r : ℕ) → r ≡ sum_of (bytes_of_words (height_words g first n)) → r ≤ 510 * n
+most g first n r e = rw e (sum_most g first n)
 
 pub loop-i-init : goal.loop-i-init
 loop-i-init c = (omega arith, none_summed _ _ _)
@@ -13,7 +19,7 @@ overflow_add-sum c =
     let a = c.args in
     let g = heights_from a.source a.numbers.now a.bytes.now in
     let so_far : c.loop-i.sum ≤ 510 * c.loop-i.i = rw c.loop-i.invariant.1.is (sum_most g a.first c.loop-i.i) in
-    omega (arith, so_far, c.put_part-sum.ensures.summed, sum_most g (a.first + c.loop-i.i) 256)
+    omega (arith, so_far, most g (a.first + c.loop-i.i) _ _ c.put_part-sum.ensures.summed)
 
 pub loop-i-preserved : goal.loop-i-preserved
 loop-i-preserved c =
