@@ -4,7 +4,6 @@ use Rattle.headers.proofs.FirstFour.{good_facts}
 use Rattle.headers.specs.Judged.{judged}
 use Rattle.headers.specs.declared.JudgedHeaders.TheVariants.{Good}
 use Rattle.intake.specs.Intake.{taken}
-use borrow.Author.Rules.{rules}
 use mathlib.Core.Path.{◌≡◌, sym, ◌∙◌}
 use Rattle.intake.proofs.intake_under.Goals as goal
 use Rattle.intake.proofs.intake_under.Goals.{In-Good}

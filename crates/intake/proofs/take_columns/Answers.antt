@@ -1,20 +1,16 @@
 -- `take_columns`: what is left of the columns, and within one of its words, answers as the whole.
-use Prim.Native.Nat.{ℕ, ◌+◌, ◌-◌, ◌≤◌}
+use Prim.Native.Nat.{◌+◌, ◌-◌}
 use Rattle.columns.proofs.WordSearch.{word_on, word_stop, words_end, searched_from, starts_within}
 use Rattle.columns.specs.Column.{word_in}
 use Rattle.columns.specs.Judged.{and_then, words_from}
 use Rattle.columns.specs.declared.JudgedColumn.{JudgedColumn}
-use Rattle.layout.specs.declared.Frame.{Frame}
 use Rattle.octets.proofs.PasteLaws.{length_part}
 use Rattle.posts.specs.Words.{word_allowed}
 use Rattle.cells.proofs.ColumnPlaces.{next_start, part_is}
-use Rattle.cells.specs.Cell.{start_of}
 use Rattle.intake.proofs.Turns.{turn_cut, turn_as, turn_end}
 use Rattle.intake.specs.Intake.{or_rest, columns_from}
-use borrow.Author.Rules.{rules}
 use borrow.Author.Tests.{not-true, not-false}
-use lib.ListN.{length, take, drop}
-use mathlib.Core.List.{List}
+use lib.ListN.{take, drop}
 use mathlib.Core.Path.{◌≡◌, sym, ◌∙◌}
 use native.Mathlib.Nat.{sub-zero, add-sub_cancel_left}
 use native.Mathlib.Omega.{arith}

@@ -1,6 +1,5 @@
 -- `look_up`: under the year that is named the post that is reached, read; or 17.
 use Rattle.lookup.specs.Lookup.{looked_up}
-use borrow.Author.Rules.{rules}
 use mathlib.Core.Path.{sym, ◌∙◌}
 use Rattle.lookup.proofs.look_up.Goals as goal
 

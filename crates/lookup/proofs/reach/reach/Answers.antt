@@ -3,7 +3,6 @@ use Rattle.headers.proofs.FirstFour.{good_facts}
 use Rattle.headers.specs.Judged.{judged}
 use Rattle.headers.specs.declared.JudgedHeaders.TheVariants.{Good}
 use Rattle.lookup.specs.Reach.{reached}
-use borrow.Author.Rules.{rules}
 use mathlib.Core.Path.{◌≡◌, sym, ◌∙◌}
 use Rattle.lookup.proofs.reach.reach.Goals as goal
 use Rattle.lookup.proofs.reach.reach.Goals.{In-Good}

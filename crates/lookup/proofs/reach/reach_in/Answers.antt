@@ -1,9 +1,7 @@
 -- `reach_in`: off the grid, its column cut, or as its column is judged.
 use Rattle.cells.proofs.ColumnPlaces.{part_is}
 use Rattle.lookup.proofs.PostReached.{off_columns, off_posts, column_cut, column_judged}
-use borrow.Author.Rules.{rules}
 use mathlib.Core.Path.{refl}
-use native.Mathlib.Omega.{arith}
 use Rattle.lookup.proofs.reach.reach_in.Goals as goal
 
 pub returns-then-grid-column : goal.returns-then-grid-column
