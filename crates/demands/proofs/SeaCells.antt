@@ -1,6 +1,6 @@
 -- A cell may have 8000 hex for every post, and is then not its columns written afresh: what D3 and X2 say of those needs its condition. Lookups
 -- answer 0 everywhere on it, and a call of the edit that was done, inner or exported, replaces its own word alone.
-use Prim.Native.Nat.{ℕ, suc, ◌+◌, ◌*◌, ◌<◌}
+use Prim.Native.Nat.{ℕ, zero, suc, ◌+◌, ◌*◌, ◌<◌}
 use native.Mathlib.Omega.{arith}
 use mathlib.Core.Path.{◌≡◌, sym, ap, subst, ◌∙◌}
 use mathlib.Core.Bool.{true, false}
@@ -65,6 +65,7 @@ module _ (year : Year) (d : Description) (e : in_range d ≡ true) where
   sea_accepted = made_cell (frame_for year d) (headers_for d) (sea_words d) (written_headed year d e) made
 
   some_post : (c p : ℕ) → 0 < c → 0 < p → 0 < c * p
+  some_post zero p h k = absurd (omega arith)
   some_post (suc c) p h k = omega arith
 
   pub sea_not_plain : Plain (words_of_cell (sea_cell d)) → ⊥

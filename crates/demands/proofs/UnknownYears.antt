@@ -8,7 +8,6 @@ use lib.Dec.{lit<}
 use contract.Lifetimes as L
 use borrow.Fn.Kinds as K
 use Rattle.answers.specs.Told.{Told, refused, told, intake, post, position, act}
-use Rattle.answers.specs.Told as telling
 use Rattle.answers.specs.declared.Refusal.TheVariants as because
 use Rattle.answers.specs.declared.Verdict.TheVariants as verdict
 use Rattle.answers.proofs.Injective.{told_injective}

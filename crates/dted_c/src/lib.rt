@@ -1,5 +1,6 @@
 // The library as a C host links it: include/dted.h says what each call is for. Each is the call of `dted` of its name, with that call's clauses.
 #![tactic(auto)]
+
 ghost use Rattle.std.specs.Prelude.{◌≡◌};
 ghost use Rattle.years.specs.Years.{under, left_under};
 ghost use Rattle.host_answers.specs.Packed.{packed};
