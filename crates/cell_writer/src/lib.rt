@@ -1,5 +1,6 @@
 // The writer of a whole cell: headers from a description, then the columns of what is given, from any source.
 #![tactic(auto)]
+
 ghost use Rattle.std.specs.Prelude.{◌≡◌, true, length};
 ghost use Rattle.answers.specs.Told as told;
 ghost use Rattle.answers.specs.declared.Outcome.TheVariants.{Done};

@@ -1,5 +1,6 @@
 // The edit: one post of a cell made another height or void, its column changed as a part of the cell.
 #![tactic(auto)]
+
 ghost use Rattle.std.specs.Prelude.{◌≡◌};
 ghost use Rattle.answers.specs.Told as told;
 ghost use Rattle.years.specs.Years.{under, left_under};

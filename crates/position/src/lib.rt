@@ -1,5 +1,6 @@
 // Lookup of a position: the post at or to the south-west of it, what remains, and the nearest post from those.
 #![tactic(auto)]
+
 ghost use Rattle.std.specs.Prelude.{◌≡◌, ◌≤◌};
 ghost use Rattle.answers.specs.Told as told;
 ghost use Rattle.years.specs.Years.{under};

@@ -7,7 +7,6 @@ use lib.ListN.{length, take}
 use lib.Seq.{take_all, take-take, length-take-le}
 use Rattle.octets.proofs.ChoiceLaws.{by_order}
 use Rattle.answers.specs.Told.{Told, told, intake, refused, numbered}
-use Rattle.answers.specs.declared.Refusal.TheVariants as because
 use Rattle.answers.specs.declared.Verdict.{Verdict}
 use Rattle.answers.specs.declared.Verdict.TheVariants as verdict
 use Rattle.answers.proofs.Injective.{told_injective}

@@ -1,5 +1,6 @@
 // Intake step by step: the headers, a piece for each column, then the rest. The state goes in and comes back by value.
 #![tactic(auto)]
+
 ghost use Rattle.std.specs.Prelude.{◌≡◌, ◌≤◌};
 ghost use Rattle.answers.specs.Told as told;
 ghost use Rattle.headers.specs.Judged.{judged};

@@ -16,7 +16,6 @@ use Rattle.column_writer.specs.Judged.{output_after}
 use Rattle.cell_writer.proofs.GridDue.{due_ranged, columns_bytes}
 use Rattle.cell_writer.proofs.SoFar.{length_columns}
 use Rattle.cell_writer.specs.Cell.{cell_of}
-use borrow.Author.Rules.{rules}
 use mathlib.Core.Path.{ap, ◌∙◌}
 use native.Mathlib.Omega.{arith}
 use Rattle.cell_writer.proofs.put_cell.Goals as goal

@@ -1,13 +1,12 @@
 -- `put_columns`: after k turns the first k columns stand, and so many heights are used.
-use Prim.Native.Nat.{ℕ, ◌+◌, ◌-◌, ◌*◌, ◌≤◌}
+use Prim.Native.Nat.{ℕ, ◌+◌, ◌*◌, ◌≤◌}
 use Rattle.layout.specs.Levels.{column_bytes}
 use Rattle.columns.specs.Column.{column_of_words, words_of}
 use Rattle.octets.proofs.JoinedLaws.{next_part, part_within, parts_small}
 use Rattle.octets.proofs.PasteLaws.{length_part}
 use Rattle.sources.specs.Heights.{Heights, heights_from, count_of, heights_of}
 use Rattle.sources.proofs.HeightLaws.{part_words, words_counted}
-use Rattle.cell_writer.proofs.SoFar.{SoFar, none, next_there, next, every}
-use borrow.Author.Rules.{rules}
+use Rattle.cell_writer.proofs.SoFar.{none, next_there, next, every}
 use lib.ListN.{length}
 use mathlib.Core.List.{List}
 use mathlib.Core.Path.{◌≡◌, ap, ◌∙◌}

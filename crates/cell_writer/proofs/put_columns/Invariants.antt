@@ -1,18 +1,10 @@
 -- `put_columns`: after k turns the first k columns stand, and so many heights are used.
-use Prim.Native.Nat.{ℕ, ◌+◌, ◌-◌, ◌*◌, ◌≤◌}
-use Rattle.layout.specs.Levels.{column_bytes}
-use Rattle.columns.specs.Column.{column_of_words, words_of}
-use Rattle.octets.proofs.JoinedLaws.{next_part, part_within, parts_small}
-use Rattle.octets.proofs.PasteLaws.{length_part}
-use Rattle.sources.specs.Heights.{Heights, heights_from, count_of, heights_of}
-use Rattle.sources.proofs.HeightLaws.{part_words, words_counted}
-use Rattle.cell_writer.proofs.SoFar.{SoFar, none, next_there, next, every}
-use Rattle.cell_writer.specs.Asked.{ColumnsFit}
-use borrow.Author.Rules.{rules}
-use lib.ListN.{length}
+use Prim.Native.Nat.{ℕ, ◌-◌, ◌*◌}
+use Rattle.columns.specs.Column.{words_of}
+use Rattle.sources.specs.Heights.{Heights, heights_from, heights_of}
+use Rattle.cell_writer.proofs.SoFar.{SoFar}
 use mathlib.Core.List.{List}
-use mathlib.Core.Path.{◌≡◌, ap, ◌∙◌}
-use native.Mathlib.Omega.{arith}
+use mathlib.Core.Path.{◌≡◌}
 use Rattle.cell_writer.proofs.put_columns.Given as goal
 
 -- the columns that stand, and the heights that they used

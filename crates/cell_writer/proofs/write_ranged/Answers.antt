@@ -10,7 +10,6 @@ use Rattle.column_writer.specs.Judged.{output_after}
 use Rattle.cell_writer.proofs.CellExactly.{UnderFine, under_fine}
 use Rattle.cell_writer.proofs.GridDue.{due_ranged}
 use Rattle.cell_writer.specs.Cell.{posts_due, frame_for, judged_under, cell_of}
-use borrow.Author.Rules.{rules}
 use lib.ListN.{length}
 use mathlib.Core.Path.{◌≡◌, sym, ap, ◌∙◌}
 use native.Mathlib.Omega.{arith}
@@ -49,7 +48,7 @@ unfolding judged_under
 put_cell-requires c =
     let k = (goal.at.put_cell-requires c).After-frame_of-frame in
     let fine : UnderFine (frame_for c.args.year c.args.d) (source k) (length c.args.out.now)
-        = under_fine (frame_for c.args.year c.args.d) (source k) (length c.args.out.now) (sym (judged_is k _ c.judge_posts-judged.ensures) ∙ c.in-Done.is) in
+    = under_fine (frame_for c.args.year c.args.d) (source k) (length c.args.out.now) (sym (judged_is k _ c.judge_posts-judged.ensures) ∙ c.in-Done.is) in
     record {
       ranged = c.requires;
       due = grid_due k;

@@ -9,7 +9,6 @@ use Rattle.column_writer.specs.Judged.{output_after}
 use Rattle.cell_writer.proofs.CellExactly.{items_fine}
 use Rattle.cell_writer.proofs.ItemExactly.{found_bad}
 use Rattle.cell_writer.specs.Cell.{frame_for, judged_under, judged_cell_write, cell_of, cell_told, cell_output}
-use borrow.Author.Rules.{rules}
 use lib.IntN.{ℤ}
 use lib.ListN.{length}
 use mathlib.Core.List.{List}

@@ -5,7 +5,6 @@ use Rattle.edit.specs.Edit.{edit_told, judged_edit, edited}
 use Rattle.posts.specs.Heights.{height_allowed, word_of}
 use Rattle.lookup.specs.Reach.{reached}
 use Rattle.lookup.specs.declared.reach.Reached.TheVariants.{At}
-use borrow.Author.Rules.{rules}
 use borrow.Author.Tests.{not-true, not-false}
 use mathlib.Core.Path.{◌≡◌, refl, sym, ap, ◌∙◌}
 use mir.Facts.{to_z-of_z}

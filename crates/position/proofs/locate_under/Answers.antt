@@ -3,7 +3,6 @@ use Rattle.headers.proofs.FirstFour.{good_facts}
 use Rattle.headers.specs.Judged.{judged}
 use Rattle.headers.specs.declared.JudgedHeaders.TheVariants.{Good}
 use Rattle.position.specs.Position.{located}
-use borrow.Author.Rules.{rules}
 use mathlib.Core.Path.{◌≡◌, sym, ◌∙◌}
 use mir.Facts.{to_z-of_z}
 use Rattle.position.proofs.locate_under.Goals as goal

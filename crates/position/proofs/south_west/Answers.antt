@@ -2,7 +2,6 @@
 use Prim.Native.Nat.{◌*◌}
 use Rattle.layout.specs.Levels.{degree}
 use Rattle.position.specs.Position.{along_axis, in_cell, south_west}
-use borrow.Author.Rules.{rules}
 use mathlib.Core.Path.{◌≡◌, sym, ◌∙◌}
 use mir.Facts.{to_z-of_z}
 use Rattle.position.proofs.south_west.Goals as goal

@@ -1,8 +1,7 @@
 -- `column_step`: on to the next column, or an answer that is kept.
 use Rattle.answers.specs.Told.{told, intake}
-use Rattle.steps.proofs.Kept.{kept, next_small}
-use borrow.Author.Rules.{rules}
-use mathlib.Core.Path.{refl, sym, ap, ◌∙◌}
+use Rattle.steps.proofs.Kept.{next_small}
+use mathlib.Core.Path.{sym, ap, ◌∙◌}
 use native.Mathlib.Omega.{arith}
 use Rattle.steps.proofs.column_step.Goals as goal
 

@@ -3,7 +3,6 @@ use Rattle.layout.specs.Ranges.{Ranged}
 use Rattle.layout.specs.Grid.{laid}
 use Rattle.layout.specs.declared.Laid.TheVariants.{Out}
 use Rattle.steps.proofs.Pieces.{laid_ranged}
-use borrow.Author.Rules.{rules}
 use borrow.Author.Tests.{lt-ltb}
 use mathlib.Core.Path.{◌≡◌, sym, ◌∙◌}
 use native.Mathlib.Omega.{arith}

@@ -1,7 +1,6 @@
 -- `columns_answer`: by whether there is such a grid.
 use Rattle.layout.specs.Ranges.{Ranged}
 use Rattle.steps.proofs.Pieces.{laid_ranged}
-use borrow.Author.Rules.{rules}
 use mathlib.Core.Path.{sym, ◌∙◌}
 use Rattle.steps.proofs.columns_answer.Goals as goal
 use Rattle.steps.proofs.columns_answer.Goals.{In-Out}

@@ -10,7 +10,6 @@ use Rattle.sources.specs.Heights.{in_bytes, heights_in_bytes}
 use Rattle.column_writer.specs.Judged.{output_after}
 use Rattle.cell_writer.proofs.ItemExactly.{found_bad}
 use Rattle.cell_writer.specs.Cell.{frame_for, judged_under, cell_of}
-use borrow.Author.Rules.{rules}
 use lib.ListN.{length}
 use mathlib.Core.Path.{◌≡◌, sym, ap, ◌∙◌}
 use native.Mathlib.Omega.{arith}

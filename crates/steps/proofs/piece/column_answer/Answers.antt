@@ -4,9 +4,7 @@ use Rattle.columns.specs.declared.JudgedColumn.{JudgedColumn}
 use Rattle.intake.specs.Intake.{or_rest}
 use Rattle.steps.proofs.Pieces.{piece_past, piece_short, piece_judged}
 use Rattle.steps.specs.Steps.{said_of_column}
-use borrow.Author.Rules.{rules}
 use mathlib.Core.Path.{◌≡◌, sym, ◌∙◌}
-use native.Mathlib.Omega.{arith}
 use Rattle.steps.proofs.piece.column_answer.Goals as goal
 use Rattle.steps.proofs.piece.column_answer.Goals.{After-judge-judged}
 
