@@ -25,8 +25,8 @@ use Rattle.intake.proofs.IntakeExactly.{end_of, IntakeRow, bad_headers, cut, col
 use Rattle.intake.proofs.OneByte.{one_byte_refused}
 use Rattle.intake.proofs.intake.Reads as intake
 use Rattle.intake.proofs.intake.Kinds as intake-kinds
-use Rattle.dted.proofs.cells.dted_intake.Reads as host-intake
-use Rattle.dted.proofs.cells.dted_intake.Kinds as host-intake-kinds
+use Rattle.dted.proofs.cell_calls.dted_intake.Reads as host-intake
+use Rattle.dted.proofs.cell_calls.dted_intake.Kinds as host-intake-kinds
 use Rattle.demands.proofs.PlacesFit.{intake_fits}
 use Rattle.demands.proofs.HostTold.{intake_told_in}
 use Rattle.demands.proofs.NamedYears.{intake_named, host_intake_named}

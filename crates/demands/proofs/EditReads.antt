@@ -24,10 +24,10 @@ use Rattle.edit.proofs.edit.Reads as edit
 use Rattle.edit.proofs.edit.Kinds as edit-kinds
 use Rattle.lookup.proofs.look_up.Reads as look_up
 use Rattle.lookup.proofs.look_up.Kinds as look-up-kinds
-use Rattle.dted.proofs.cells.dted_edit.Reads as host-edit
-use Rattle.dted.proofs.cells.dted_edit.Kinds as host-edit-kinds
-use Rattle.dted.proofs.cells.dted_post.Reads as host-post
-use Rattle.dted.proofs.cells.dted_post.Kinds as host-post-kinds
+use Rattle.dted.proofs.cell_calls.dted_edit.Reads as host-edit
+use Rattle.dted.proofs.cell_calls.dted_edit.Kinds as host-edit-kinds
+use Rattle.dted.proofs.cell_calls.dted_post.Reads as host-post
+use Rattle.dted.proofs.cell_calls.dted_post.Kinds as host-post-kinds
 use Rattle.demands.proofs.NamedYears.{edit_named, post_named, host_edit_named, host_post_named}
 use Rattle.demands.proofs.HostAnswers.{was_done}
 use Rattle.demands.proofs.HostTold.{post_told_in}

@@ -14,8 +14,8 @@ use Rattle.edit.specs.Edit.{edited}
 use Rattle.edit.proofs.SixBytes.{post_at, checksum_at, same_length, six_bytes}
 use Rattle.edit.proofs.edit.Reads as edit
 use Rattle.edit.proofs.edit.Kinds as edit-kinds
-use Rattle.dted.proofs.cells.dted_edit.Reads as host-edit
-use Rattle.dted.proofs.cells.dted_edit.Kinds as host-edit-kinds
+use Rattle.dted.proofs.cell_calls.dted_edit.Reads as host-edit
+use Rattle.dted.proofs.cell_calls.dted_edit.Kinds as host-edit-kinds
 
 -- the bytes after an edit are as many as before, and each that is none of the six is as it was
 pub record Touched (l after : List ℕ) (c p : ℕ) : Type 0 where

@@ -59,14 +59,14 @@ use Rattle.position.proofs.locate.Reads as locating
 use Rattle.position.proofs.locate.Kinds as locating-kinds
 use Rattle.edit.proofs.edit.Reads as editing
 use Rattle.edit.proofs.edit.Kinds as editing-kinds
-use Rattle.dted.proofs.cells.dted_intake.Reads as intake-call
-use Rattle.dted.proofs.cells.dted_intake.Kinds as intake-kinds
-use Rattle.dted.proofs.cells.dted_post.Reads as post-call
-use Rattle.dted.proofs.cells.dted_post.Kinds as post-kinds
-use Rattle.dted.proofs.cells.dted_position.Reads as position-call
-use Rattle.dted.proofs.cells.dted_position.Kinds as position-kinds
-use Rattle.dted.proofs.cells.dted_edit.Reads as edit-call
-use Rattle.dted.proofs.cells.dted_edit.Kinds as edit-kinds
+use Rattle.dted.proofs.cell_calls.dted_intake.Reads as intake-call
+use Rattle.dted.proofs.cell_calls.dted_intake.Kinds as intake-kinds
+use Rattle.dted.proofs.cell_calls.dted_post.Reads as post-call
+use Rattle.dted.proofs.cell_calls.dted_post.Kinds as post-kinds
+use Rattle.dted.proofs.cell_calls.dted_position.Reads as position-call
+use Rattle.dted.proofs.cell_calls.dted_position.Kinds as position-kinds
+use Rattle.dted.proofs.cell_calls.dted_edit.Reads as edit-call
+use Rattle.dted.proofs.cell_calls.dted_edit.Kinds as edit-kinds
 use Rattle.dted.proofs.descriptions.dted_describe.Reads as describe-call
 use Rattle.dted.proofs.descriptions.dted_describe.Kinds as describe-kinds
 use Rattle.demands.proofs.NamedYears.{intake_named, post_named, position_named, edit_named}

@@ -18,8 +18,8 @@ use Rattle.years.proofs.YearLaws.{by_year, under_named, under_none}
 use Rattle.host_answers.specs.Packed.{packed}
 use Rattle.intake.specs.Intake.{taken}
 use Rattle.intake.proofs.IntakeExactly.{IntakeRow, bad_headers, cut, column, surplus, fine, row}
-use Rattle.dted.proofs.cells.dted_intake.Reads as intake
-use Rattle.dted.proofs.cells.dted_intake.Kinds as intake-kinds
+use Rattle.dted.proofs.cell_calls.dted_intake.Reads as intake
+use Rattle.dted.proofs.cell_calls.dted_intake.Kinds as intake-kinds
 
 -- no refusal is answered as 0
 never_0 : (r : Refusal) → packed (numbered r) ≡ 0 → ⊥

@@ -15,8 +15,8 @@ use Rattle.edit.specs.Edit.{judged_edit, edit_told}
 use Rattle.edit.specs.Sequence.{Call, takes}
 use Rattle.edit.specs.Replaced.{with_replaced}
 use Rattle.edit.proofs.EditWords.{edit_answered}
-use Rattle.dted.proofs.cells.dted_edit.Reads as edit
-use Rattle.dted.proofs.cells.dted_edit.Kinds as edit-kinds
+use Rattle.dted.proofs.cell_calls.dted_edit.Reads as edit
+use Rattle.dted.proofs.cell_calls.dted_edit.Kinds as edit-kinds
 use Rattle.demands.proofs.NamedYears.{host_edit_named}
 use Rattle.demands.proofs.EditChain.{Chain, empty, call, Left, one_done, chain_left}
 use Rattle.demands.proofs.HostAnswers.{answer_is}

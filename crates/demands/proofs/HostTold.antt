@@ -22,14 +22,14 @@ use Rattle.host_writers.specs.Cell.{bytes_told}
 use Rattle.host_writers.specs.Column.{column_bytes_told}
 use Rattle.dted.specs.Grid.{grid_told}
 use Rattle.dted.specs.Description.{said_of_described}
-use Rattle.dted.proofs.cells.dted_intake.Reads as intake-call
-use Rattle.dted.proofs.cells.dted_intake.Kinds as intake-kinds
-use Rattle.dted.proofs.cells.dted_post.Reads as post-call
-use Rattle.dted.proofs.cells.dted_post.Kinds as post-kinds
-use Rattle.dted.proofs.cells.dted_position.Reads as position-call
-use Rattle.dted.proofs.cells.dted_position.Kinds as position-kinds
-use Rattle.dted.proofs.cells.dted_edit.Reads as edit-call
-use Rattle.dted.proofs.cells.dted_edit.Kinds as edit-kinds
+use Rattle.dted.proofs.cell_calls.dted_intake.Reads as intake-call
+use Rattle.dted.proofs.cell_calls.dted_intake.Kinds as intake-kinds
+use Rattle.dted.proofs.cell_calls.dted_post.Reads as post-call
+use Rattle.dted.proofs.cell_calls.dted_post.Kinds as post-kinds
+use Rattle.dted.proofs.cell_calls.dted_position.Reads as position-call
+use Rattle.dted.proofs.cell_calls.dted_position.Kinds as position-kinds
+use Rattle.dted.proofs.cell_calls.dted_edit.Reads as edit-call
+use Rattle.dted.proofs.cell_calls.dted_edit.Kinds as edit-kinds
 use Rattle.dted.proofs.descriptions.dted_describe.Reads as describe-call
 use Rattle.dted.proofs.descriptions.dted_describe.Kinds as describe-kinds
 use Rattle.dted.proofs.grids.dted_grid.Reads as grid-call

@@ -32,10 +32,10 @@ use Rattle.host_writers.specs.Cell.{judged_bytes, bytes_told, bytes_output}
 use Rattle.host_writers.proofs.BytesExactly.{Ready, ready}
 use Rattle.host_items.proofs.ItemNumbers.{in_range_lem, description_back}
 use Rattle.dted.specs.Description.{items_after}
-use Rattle.dted.proofs.cells.dted_intake.Reads as intake
-use Rattle.dted.proofs.cells.dted_intake.Kinds as intake-kinds
-use Rattle.dted.proofs.cells.dted_post.Reads as post
-use Rattle.dted.proofs.cells.dted_post.Kinds as post-kinds
+use Rattle.dted.proofs.cell_calls.dted_intake.Reads as intake
+use Rattle.dted.proofs.cell_calls.dted_intake.Kinds as intake-kinds
+use Rattle.dted.proofs.cell_calls.dted_post.Reads as post
+use Rattle.dted.proofs.cell_calls.dted_post.Kinds as post-kinds
 use Rattle.dted.proofs.descriptions.dted_describe.Reads as describe
 use Rattle.dted.proofs.descriptions.dted_describe.Kinds as describe-kinds
 use Rattle.dted.proofs.writers.dted_write.Reads as write

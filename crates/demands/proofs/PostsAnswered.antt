@@ -39,10 +39,10 @@ use Rattle.lookup.proofs.look_up.Reads as look_up
 use Rattle.lookup.proofs.look_up.Kinds as look-up-kinds
 use Rattle.position.proofs.locate.Reads as locate
 use Rattle.position.proofs.locate.Kinds as locate-kinds
-use Rattle.dted.proofs.cells.dted_post.Reads as host-post
-use Rattle.dted.proofs.cells.dted_post.Kinds as host-post-kinds
-use Rattle.dted.proofs.cells.dted_position.Reads as host-position
-use Rattle.dted.proofs.cells.dted_position.Kinds as host-position-kinds
+use Rattle.dted.proofs.cell_calls.dted_post.Reads as host-post
+use Rattle.dted.proofs.cell_calls.dted_post.Kinds as host-post-kinds
+use Rattle.dted.proofs.cell_calls.dted_position.Reads as host-position
+use Rattle.dted.proofs.cell_calls.dted_position.Kinds as host-position-kinds
 use Rattle.demands.proofs.NamedYears.{post_named, position_named, host_post_named}
 use Rattle.demands.proofs.HostTold.{post_told_in, position_told_in}
 

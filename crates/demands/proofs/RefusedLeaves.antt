@@ -40,8 +40,8 @@ use Rattle.host_writers.proofs.cell.write.Reads as write_bytes
 use Rattle.host_writers.proofs.cell.write.Kinds as write-bytes-kinds
 use Rattle.host_writers.proofs.column.write.Reads as write-column-bytes
 use Rattle.host_writers.proofs.column.write.Kinds as write-column-bytes-kinds
-use Rattle.dted.proofs.cells.dted_edit.Reads as host-edit
-use Rattle.dted.proofs.cells.dted_edit.Kinds as host-edit-kinds
+use Rattle.dted.proofs.cell_calls.dted_edit.Reads as host-edit
+use Rattle.dted.proofs.cell_calls.dted_edit.Kinds as host-edit-kinds
 use Rattle.dted.proofs.descriptions.dted_describe.Reads as host-describe
 use Rattle.dted.proofs.descriptions.dted_describe.Kinds as host-describe-kinds
 use Rattle.dted.proofs.writers.dted_write.Reads as host-write

@@ -37,8 +37,8 @@ use Rattle.cell_writer.proofs.WrittenCell.{written_headed}
 use Rattle.edit.specs.Replaced.{with_replaced}
 use Rattle.edit.proofs.edit.Reads as edit
 use Rattle.edit.proofs.edit.Kinds as kinds
-use Rattle.dted.proofs.cells.dted_edit.Reads as host-edit
-use Rattle.dted.proofs.cells.dted_edit.Kinds as host-kinds
+use Rattle.dted.proofs.cell_calls.dted_edit.Reads as host-edit
+use Rattle.dted.proofs.cell_calls.dted_edit.Kinds as host-kinds
 use Rattle.demands.specs.Sea.{sea_words, sea_cell}
 use Rattle.demands.proofs.PostsAnswered.{stored_at, Answered, AnsweredNear}
 use Rattle.demands.proofs.EditedCells as inner

@@ -35,14 +35,14 @@ use Rattle.cell_writer.proofs.write.Reads as write-call
 use Rattle.cell_writer.proofs.write.Kinds as write-kinds
 use Rattle.host_writers.proofs.cell.write.Reads as bytes-call
 use Rattle.host_writers.proofs.cell.write.Kinds as bytes-kinds
-use Rattle.dted.proofs.cells.dted_intake.Reads as host-intake-call
-use Rattle.dted.proofs.cells.dted_intake.Kinds as host-intake-kinds
-use Rattle.dted.proofs.cells.dted_post.Reads as host-post-call
-use Rattle.dted.proofs.cells.dted_post.Kinds as host-post-kinds
-use Rattle.dted.proofs.cells.dted_position.Reads as host-position-call
-use Rattle.dted.proofs.cells.dted_position.Kinds as host-position-kinds
-use Rattle.dted.proofs.cells.dted_edit.Reads as host-edit-call
-use Rattle.dted.proofs.cells.dted_edit.Kinds as host-edit-kinds
+use Rattle.dted.proofs.cell_calls.dted_intake.Reads as host-intake-call
+use Rattle.dted.proofs.cell_calls.dted_intake.Kinds as host-intake-kinds
+use Rattle.dted.proofs.cell_calls.dted_post.Reads as host-post-call
+use Rattle.dted.proofs.cell_calls.dted_post.Kinds as host-post-kinds
+use Rattle.dted.proofs.cell_calls.dted_position.Reads as host-position-call
+use Rattle.dted.proofs.cell_calls.dted_position.Kinds as host-position-kinds
+use Rattle.dted.proofs.cell_calls.dted_edit.Reads as host-edit-call
+use Rattle.dted.proofs.cell_calls.dted_edit.Kinds as host-edit-kinds
 use Rattle.dted.proofs.writers.dted_write.Reads as host-write-call
 use Rattle.dted.proofs.writers.dted_write.Kinds as host-write-kinds
 

@@ -20,21 +20,21 @@ use host_items::items::ITEMS;
 pub extern "C" fn dted_intake(named: u32, cell: &[u8]) -> u64
     ensures { result ≡ packed (under named (λ year. taken year cell.now)) }
 {
-    dted::cells::dted_intake(named, cell)
+    dted::cell_calls::dted_intake(named, cell)
 }
 
 #[unsafe(no_mangle)]
 pub extern "C" fn dted_post(named: u32, cell: &[u8], column: u64, post: u64) -> u64
     ensures { result ≡ packed (under named (λ year. looked_up year cell.now column post)) }
 {
-    dted::cells::dted_post(named, cell, column, post)
+    dted::cell_calls::dted_post(named, cell, column, post)
 }
 
 #[unsafe(no_mangle)]
 pub extern "C" fn dted_position(named: u32, cell: &[u8], latitude: i64, longitude: i64) -> u64
     ensures { result ≡ packed (under named (λ year. located year cell.now latitude longitude)) }
 {
-    dted::cells::dted_position(named, cell, latitude, longitude)
+    dted::cell_calls::dted_position(named, cell, latitude, longitude)
 }
 
 #[unsafe(no_mangle)]
@@ -42,7 +42,7 @@ pub extern "C" fn dted_edit(named: u32, cell: &mut [u8], column: u64, post: u64,
     ensures answer { result ≡ packed (under named (λ year. edit_told year cell.old column post height)) }
     ensures lent { cell.new ≡ left_under named cell.old (λ year. edited year cell.old column post height) }
 {
-    dted::cells::dted_edit(named, cell, column, post, height)
+    dted::cell_calls::dted_edit(named, cell, column, post, height)
 }
 
 #[unsafe(no_mangle)]
