@@ -1,4 +1,4 @@
--- What a writer holds where writing broke off.
+-- What a writer holds, be it that writing broke off.
 use Rattle.std.specs.Prelude.{ℕ, ◌≤◌, List, length, take, Option}
 use Rattle.std.specs.Io.KnownBytes.{Appends}
 

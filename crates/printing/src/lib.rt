@@ -1,7 +1,7 @@
 // One line for a verdict, into a writer: what the programs print.
 #![tactic(auto)]
 
-ghost use Rattle.std.specs.Prelude.{OnOk, OnErr};
+ghost use Rattle.std.specs.Prelude.{OnOk};
 ghost use Rattle.std.specs.Io.KnownBytes.{Appends};
 ghost use Rattle.answers.specs.Told.{told, intake};
 ghost use Rattle.printing.specs.Line.{line_of};
@@ -13,10 +13,10 @@ use std::io::Write;
 
 mod lines;
 
-// Writes the bytes: all by one write, where the writer takes so many at once. A write that fails or takes none ends it.
-fn write_out<W: Write>(out: &mut W, bytes: &[u8]) -> io::Result<()>
+// Writes the bytes: all by one write, where the writer takes so many at once. A write that fails or takes none ends it: the writer has their front.
+pub fn write_out<W: Write>(out: &mut W, bytes: &[u8]) -> io::Result<()>
     ensures whole { OnOk result (Appends (W.contents out.old) (W.contents out.new) bytes.now) }
-    ensures broken_off { OnErr result (AppendsFront (W.contents out.old) (W.contents out.new) bytes.now) }
+    ensures front { AppendsFront (W.contents out.old) (W.contents out.new) bytes.now }
 {
     let mut done = 0;
     while done < bytes.len() {
@@ -32,7 +32,7 @@ fn write_out<W: Write>(out: &mut W, bytes: &[u8]) -> io::Result<()>
 // Prints a verdict that ends intake by one write; nothing where more is due. After an error the writer has the front of the line.
 pub fn verdict<W: Write>(out: &mut W, verdict: Verdict) -> io::Result<()>
     ensures whole { OnOk result (Appends (W.contents out.old) (W.contents out.new) (line_of (told intake verdict))) }
-    ensures broken_off { OnErr result (AppendsFront (W.contents out.old) (W.contents out.new) (line_of (told intake verdict))) }
+    ensures front { AppendsFront (W.contents out.old) (W.contents out.new) (line_of (told intake verdict)) }
 {
     let line = lines::line_of(verdict);
     let bytes = line.bytes;

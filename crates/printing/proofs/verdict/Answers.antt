@@ -1,5 +1,5 @@
 -- `verdict`: the bytes that are written are those of the line.
-use Rattle.std.proofs.Common.{length, take, OnOk, OnErr, List, ℕ, ◌≡◌, ap, subst, ◌∙◌}
+use Rattle.std.proofs.Common.{length, take, OnOk, List, ℕ, ◌≡◌, ap, subst, ◌∙◌}
 use Rattle.std.specs.Io.KnownBytes.{Appends}
 use Rattle.answers.specs.Told.{told, intake}
 use Rattle.printing.specs.Line.{line_of, in_array}
@@ -19,10 +19,9 @@ returns-clause-whole g c =
     subst (λ (bytes : List ℕ). OnOk c.write_out.result (Appends (g.W.Write.contents c.args.out.now) (g.W.Write.contents c.write_out.new.out) bytes))
     same c.write_out.ensures.whole
 
-pub returns-clause-broken_off : goal.returns-clause-broken_off
-returns-clause-broken_off g c =
+pub returns-clause-front : goal.returns-clause-front
+returns-clause-front g c =
     let e = c.line_of-line.ensures in
     let line = line_of (told intake c.args.verdict) in
     let same = front_of line c.line_of-line.result.bytes c.line_of-line.result.length e.0 e.1.0 in
-    subst (λ (bytes : List ℕ). OnErr c.write_out.result (AppendsFront (g.W.Write.contents c.args.out.now) (g.W.Write.contents c.write_out.new.out) bytes))
-    same c.write_out.ensures.broken_off
+    subst (AppendsFront (g.W.Write.contents c.args.out.now) (g.W.Write.contents c.write_out.new.out)) same c.write_out.ensures.front
