@@ -1,5 +1,6 @@
 // Whole-degree angles, counted from 90 S or from 180 W, and the degrees and letter that write them.
 #![tactic(auto)]
+
 ghost use Rattle.std.specs.Prelude.{◌≡◌, suc, ◌+◌, length};
 ghost use Rattle.angles.specs.Asked.{FewDegrees};
 ghost use Rattle.angles.specs.Angles.{form, angle_of, degrees_of, letter_of, is_origin, either_letter, is_side, may_carry, angle_text};
@@ -7,7 +8,6 @@ ghost use Rattle.angles.specs.Angles.{form, angle_of, degrees_of, letter_of, is_
 use octets::choices::{both, either};
 
 // An axis: how many degrees lie before 0, and the letters on either side.
-#[derive(Drop)]
 #[derive(Clone, Copy)]
 pub struct Axis {
     pub most: usize,

@@ -1,10 +1,10 @@
 // What the library's calls answer: refusals with their places, and the answers that carry one.
 #![tactic(auto)]
+
 ghost use Rattle.std.specs.Prelude.{◌≡◌};
 ghost use Rattle.answers.specs.Told.{numbered, refused};
 
 // Why a call was refused, with its place: an offset in the file, a length, an item or an index.
-#[derive(Drop)]
 #[derive(Clone, Copy)]
 pub enum Refusal {
     // fewer bytes than the headers: the length
@@ -40,7 +40,6 @@ pub enum Refusal {
 }
 
 // What intake answers, whole or step by step.
-#[derive(Drop)]
 #[derive(Clone, Copy)]
 pub enum Verdict {
     // good so far, the next piece is due
@@ -54,7 +53,6 @@ pub enum Verdict {
 }
 
 // What a lookup of one post answers.
-#[derive(Drop)]
 #[derive(Clone, Copy)]
 pub enum Reading {
     Height(i16),
@@ -63,7 +61,6 @@ pub enum Reading {
 }
 
 // What a lookup of a position answers: the nearest post, and what it reads as.
-#[derive(Drop)]
 #[derive(Clone, Copy)]
 pub enum Located {
     Height {
@@ -79,7 +76,6 @@ pub enum Located {
 }
 
 // What an edit or a writer answers.
-#[derive(Drop)]
 #[derive(Clone, Copy)]
 pub enum Outcome {
     Done,
@@ -87,7 +83,6 @@ pub enum Outcome {
 }
 
 // A refusal's number and its place, as a host or a printed line has them.
-#[derive(Drop)]
 #[derive(Clone, Copy)]
 pub struct Numbered(pub usize, pub usize);
 

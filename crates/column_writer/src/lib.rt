@@ -14,7 +14,6 @@ use layout::Grid;
 use sources::Source;
 
 // The grid that has a column, or why there is no such column.
-#[derive(Drop)]
 #[derive(Clone, Copy)]
 pub enum Placed {
     On(Grid),

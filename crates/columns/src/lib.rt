@@ -14,7 +14,6 @@ use answers::Refusal;
 use octets::numbers::{be16, be24, be32};
 use posts::words::is_allowed;
 
-#[derive(Drop)]
 #[derive(Clone, Copy)]
 pub enum JudgedColumn {
     Good,

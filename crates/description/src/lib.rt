@@ -7,14 +7,12 @@ pub mod facts;
 pub mod items;
 
 // An accuracy in metres, or not available.
-#[derive(Drop)]
 #[derive(Clone, Copy)]
 pub enum Accuracy {
     Metres(u16),
     Unknown,
 }
 
-#[derive(Drop)]
 #[derive(Clone, Copy)]
 pub struct Accuracies {
     pub horizontal: Accuracy,
@@ -22,7 +20,6 @@ pub struct Accuracies {
 }
 
 // The vertical datum.
-#[derive(Drop)]
 #[derive(Clone, Copy)]
 pub enum Datum {
     Msl,
@@ -30,7 +27,6 @@ pub enum Datum {
 }
 
 // The thirteen items of a cell: what its headers say beyond what is fixed. Angles are counted as in `angles`.
-#[derive(Drop)]
 #[derive(Clone, Copy)]
 pub struct Description {
     pub level: usize,
@@ -46,7 +42,6 @@ pub struct Description {
     pub partial: usize,
 }
 
-#[derive(Drop)]
 #[derive(Clone, Copy)]
 pub enum Described {
     As(Description),

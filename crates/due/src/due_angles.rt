@@ -8,7 +8,6 @@ use angles::{Axis, EASTWARD, NORTHWARD};
 use fields::Angle;
 
 // An angle, the digits of its degrees, whether its seconds have a tenth, and whether it is a corner's.
-#[derive(Drop)]
 #[derive(Clone, Copy)]
 pub struct DueAngle {
     pub axis: Axis,

@@ -10,7 +10,6 @@ pub mod put;
 pub mod texts;
 
 // What level, origin and security letter are: by these the other fields are due.
-#[derive(Drop)]
 #[derive(Clone, Copy)]
 pub struct Basis {
     pub grid: Grid,

@@ -1,7 +1,6 @@
 // The free bytes that are written other than as blanks.
 
 // An area of zeros: where it stands, and how many there are.
-#[derive(Drop)]
 #[derive(Clone, Copy)]
 pub struct Area(pub usize, pub usize);
 

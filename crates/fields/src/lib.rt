@@ -1,5 +1,6 @@
 // The fields of the headers, row by row in the order of judging: headers are judged and written by them.
 #![tactic(auto)]
+
 ghost use Rattle.std.specs.Prelude.{◌≡◌, ◌+◌, ◌<◌};
 ghost use Rattle.fields.specs.Table.{field_at};
 
@@ -7,7 +8,6 @@ pub mod free;
 pub mod places;
 
 // A fixed text.
-#[derive(Drop)]
 #[derive(Clone, Copy)]
 pub enum Text {
     Uhl1,
@@ -21,7 +21,6 @@ pub enum Text {
 }
 
 // A number that the grid makes due, in four digits.
-#[derive(Drop)]
 #[derive(Clone, Copy)]
 pub enum Number {
     LatitudeInterval,
@@ -31,7 +30,6 @@ pub enum Number {
 }
 
 // An angle that the origin makes due: the origin again in the DSI, and the edges that the corners lie on.
-#[derive(Drop)]
 #[derive(Clone, Copy)]
 pub enum Angle {
     OriginLatitude,
@@ -43,7 +41,6 @@ pub enum Angle {
 }
 
 // Whose accuracy.
-#[derive(Drop)]
 #[derive(Clone, Copy)]
 pub enum Whose {
     Uhl,
@@ -54,7 +51,6 @@ pub enum Whose {
 }
 
 // An item of the description: its field alone says it.
-#[derive(Drop)]
 #[derive(Clone, Copy)]
 pub enum Item {
     Level,
@@ -69,7 +65,6 @@ pub enum Item {
 }
 
 // What is due in a field, once level, origin and security letter are known.
-#[derive(Drop)]
 #[derive(Clone, Copy)]
 pub enum Due {
     Text(Text),
@@ -80,7 +75,6 @@ pub enum Due {
 }
 
 // What a field holds.
-#[derive(Drop)]
 #[derive(Clone, Copy)]
 pub enum Kind {
     Item(Item),
@@ -88,7 +82,6 @@ pub enum Kind {
 }
 
 // Where a field stands, how many bytes it has, and what it holds.
-#[derive(Drop)]
 #[derive(Clone, Copy)]
 pub struct Field(pub usize, pub usize, pub Kind);
 

@@ -8,7 +8,6 @@ pub mod readings;
 pub mod rows;
 
 // What the rest of the library needs of good headers. Angles are counted as in `angles`.
-#[derive(Drop)]
 #[derive(Clone, Copy)]
 pub struct Facts {
     pub grid: Grid,
@@ -17,7 +16,6 @@ pub struct Facts {
     pub partial: usize,
 }
 
-#[derive(Drop)]
 #[derive(Clone, Copy)]
 pub enum JudgedHeaders {
     Good(Facts),

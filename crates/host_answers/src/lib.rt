@@ -1,5 +1,6 @@
 // Answers packed for a C host: one number of 64 bits each.
 #![tactic(auto)]
+
 ghost use Rattle.std.specs.Prelude.{◌≡◌};
 ghost use Rattle.answers.specs.Told as told;
 ghost use Rattle.host_answers.specs.Packed as by;

@@ -2,6 +2,7 @@
 // It only feeds stepwise intake, a column at a time through one buffer; everything that is decided is decided there.
 // Given any argument it judges nothing: a line about standard input would be taken for one about a file that was named.
 #![tactic(auto)]
+
 ghost use Rattle.std.specs.Prelude.{◌≡◌, ◌≤◌, length, IfErr, ⊤};
 ghost use Rattle.std.specs.Io.{ReadsAtMost};
 ghost use Rattle.std.specs.declared.io.Error.{Error};
@@ -142,6 +143,10 @@ fn main(rt: HostRuntime) {
             b"intake: it takes no arguments; the cell comes on standard input\n",
         );
     } else {
-        tell(take_input(&mut rt.stdin()), &mut rt.stdout(), &mut rt.stderr());
+        tell(
+            take_input(&mut rt.stdin()),
+            &mut rt.stdout(),
+            &mut rt.stderr(),
+        );
     }
 }

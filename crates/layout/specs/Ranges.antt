@@ -1,5 +1,5 @@
 -- What the grid of good headers is within: functions ask it of their callers, so that no sum or product of theirs can wrap.
-use Rattle.std.specs.Prelude.{ℕ, ◌+◌, ◌-◌, ◌*◌, ◌<◌, ◌≤◌, ◌≡◌}
+use Rattle.std.specs.Prelude.{◌+◌, ◌-◌, ◌*◌, ◌<◌, ◌≤◌, ◌≡◌}
 use Rattle.layout.specs.Grid.{header_bytes}
 use Rattle.layout.specs.Levels.{column_bytes}
 use Rattle.layout.specs.declared.Grid.{Grid}

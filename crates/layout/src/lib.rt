@@ -1,5 +1,6 @@
 // Levels and latitude zones: what grid of posts a cell has, and how long its columns and the cell are.
 #![tactic(auto)]
+
 ghost use Rattle.std.specs.Prelude.{◌≡◌};
 ghost use Rattle.layout.specs.Grid.{grid_of, laid};
 ghost use Rattle.layout.specs.Asked.{HasGrid};
@@ -13,7 +14,6 @@ pub const DEGREE: usize = 36000;
 pub const HEADER_BYTES: usize = 3428;
 
 // Tenths of an arc-second between neighbouring posts of a column, and between neighbouring columns.
-#[derive(Drop)]
 #[derive(Clone, Copy)]
 pub struct Interval {
     pub latitude: usize,
@@ -21,7 +21,6 @@ pub struct Interval {
 }
 
 // Lengths in bytes.
-#[derive(Drop)]
 #[derive(Clone, Copy)]
 pub struct Bytes {
     pub column: usize,
@@ -29,7 +28,6 @@ pub struct Bytes {
 }
 
 // The grid of a cell: its columns, and the posts to a column.
-#[derive(Drop)]
 #[derive(Clone, Copy)]
 pub struct Grid {
     pub level: usize,
@@ -41,14 +39,12 @@ pub struct Grid {
 }
 
 // What the columns of a cell are held to: its grid, and whether it may hold voids.
-#[derive(Drop)]
 #[derive(Clone, Copy)]
 pub struct Frame {
     pub grid: Grid,
     pub voids: bool,
 }
 
-#[derive(Drop)]
 #[derive(Clone, Copy)]
 pub enum Laid {
     Out(Grid),

@@ -12,7 +12,6 @@ use octets::numbers::be16;
 use years::Year;
 
 // A post of a good column: where the column starts, how many posts it has, whether it may hold voids, and the post's word.
-#[derive(Drop)]
 #[derive(Clone, Copy)]
 pub struct Spot {
     pub start: usize,
@@ -21,7 +20,6 @@ pub struct Spot {
     pub word: u16,
 }
 
-#[derive(Drop)]
 #[derive(Clone, Copy)]
 pub enum Reached {
     At(Spot),

@@ -1,5 +1,6 @@
 // Lent bytes: numbers high byte first, byte sums, decimal digits, fixed texts, and bytes put over bytes.
 #![tactic(auto)]
+
 pub mod choices;
 pub mod digits;
 pub mod extremes;

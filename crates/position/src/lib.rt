@@ -24,7 +24,6 @@ const LATITUDES: usize = 3240000;
 const LONGITUDES: usize = 6480000;
 
 // Tenths along an axis.
-#[derive(Drop)]
 #[derive(Clone, Copy)]
 pub enum Along {
     On(usize),
@@ -32,7 +31,6 @@ pub enum Along {
 }
 
 // The post at or to the south-west of a position, and how far the position lies east and north of it.
-#[derive(Drop)]
 #[derive(Clone, Copy)]
 pub struct Corner {
     pub column: usize,
@@ -41,7 +39,6 @@ pub struct Corner {
     pub north: usize,
 }
 
-#[derive(Drop)]
 #[derive(Clone, Copy)]
 pub enum Within {
     In(Corner),

@@ -1,14 +1,12 @@
 -- Words of a part: the test of a word as two tests of numbers, one word on, and parts put together.
-use Rattle.std.proofs.Common.{◌≡◌, ℕ, zero, suc, ◌+◌, ◌-◌, ◌*◌, ◌%◌, ◌<◌, ◌≤◌, Bool, true, false, leb, List, length, get_or, drop, ℤ, pos, sym, refl, ap, ◌∙◌, arith, le-leb}
-use native.Mathlib.Nat.{sub-zero}
+use Rattle.std.proofs.Common.{◌≡◌, ℕ, zero, suc, ◌+◌, ◌-◌, ◌*◌, ◌%◌, ◌<◌, ◌≤◌, Bool, true, false, leb, List, length, get_or, drop, pos, sym, refl, ap, ◌∙◌, arith, le-leb}
 use lib.Signed.{le_z}
 use borrow.Author.Tests.{lt-leb}
-use Rattle.octets.specs.Choice.{pick, both}
+use Rattle.octets.specs.Choice.{both}
 use Rattle.octets.specs.Numbers.{number_at}
 use Rattle.octets.specs.Sums.{sum_of}
 use Rattle.octets.specs.Twos.{twos_of}
 use Rattle.octets.proofs.ChoiceLaws.{both_true, both_is, by_order, by_equal}
-use Rattle.octets.proofs.NumberLaws.{number_two}
 use Rattle.octets.proofs.SumLaws.{sum_step}
 use Rattle.octets.proofs.TwosLaws.{twos_low, twos_high}
 use Rattle.posts.specs.Parts.{turn_by, deepest_turned, extremes_allowed}

@@ -1,10 +1,10 @@
 -- Laws of heights judged at once: a height beside those that were counted, and how one counts.
-use Rattle.std.proofs.Common.{◌≡◌, ◌-◌, Bool, true, false, ℤ, pos, negsuc, neg_ℤ, sym, refl, ap, ◌∙◌}
+use Rattle.std.proofs.Common.{◌≡◌, ◌-◌, Bool, true, false, ℤ, pos, negsuc, neg_ℤ, sym, refl}
 use lib.Signed.{le_z}
 use Rattle.octets.specs.Choice.{both}
 use Rattle.octets.proofs.ChoiceLaws.{by_test, by_equal, clash}
 use Rattle.posts.specs.Words.{in_range}
-use Rattle.posts.specs.Heights.{void_depth, void_number, is_void, height_allowed}
+use Rattle.posts.specs.Heights.{void_depth, is_void, height_allowed}
 use Rattle.posts.specs.Spans.{passed_over, counted_as, span_in_range}
 use Rattle.posts.proofs.Voids.{not_void}
 

@@ -16,7 +16,6 @@ use std::num::wrapping_add_u16;
 pub const MOST: usize = 256;
 
 // What a part of a column, or all of it, sums up to, and whether each of its words is allowed.
-#[derive(Drop)]
 #[derive(Clone, Copy)]
 pub struct Measured {
     pub sum: u32,

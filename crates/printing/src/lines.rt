@@ -11,7 +11,6 @@ use octets::pastes::paste;
 // The longest line: `accepted `, and three numbers of 20 digits with a byte behind each.
 const ROOM: usize = 72;
 
-#[derive(Drop)]
 #[derive(Clone, Copy)]
 pub struct Line {
     pub bytes: [u8; ROOM],

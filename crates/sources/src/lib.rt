@@ -8,7 +8,6 @@ use octets::choices::both;
 use octets::numbers::be16;
 use octets::twos::number_of;
 
-#[derive(Drop)]
 #[derive(Clone, Copy)]
 pub enum Source {
     // 16-bit numbers

@@ -15,7 +15,6 @@ use layout::{Frame, HEADER_BYTES, Laid};
 use years::{Named, Year, year_of};
 
 // The columns still due: of which grid, and which is next.
-#[derive(Drop)]
 #[derive(Clone, Copy)]
 pub struct ColumnsDue {
     pub level: usize,
@@ -25,7 +24,6 @@ pub struct ColumnsDue {
 }
 
 // What the next piece is for; before the first step, the rule year that was named.
-#[derive(Drop)]
 #[derive(Clone, Copy)]
 pub enum Phase {
     Headers(u32),
@@ -33,14 +31,12 @@ pub enum Phase {
     Over(Verdict),
 }
 
-#[derive(Drop)]
 #[derive(Clone, Copy)]
 pub struct Steps {
     pub phase: Phase,
 }
 
 // The new state, and what the step answers.
-#[derive(Drop)]
 #[derive(Clone, Copy)]
 pub struct Stepped {
     pub steps: Steps,

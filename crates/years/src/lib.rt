@@ -1,9 +1,9 @@
 // The rule year that a host names in a call: it decides where a cell may hold voids.
 #![tactic(auto)]
+
 ghost use Rattle.std.specs.Prelude.{◌≡◌};
 ghost use Rattle.years.specs.Years.{named_of};
 
-#[derive(Drop)]
 #[derive(Clone, Copy)]
 pub enum Year {
     One,
@@ -11,7 +11,6 @@ pub enum Year {
 }
 
 // What a number names: a year whose rules there are, or none.
-#[derive(Drop)]
 #[derive(Clone, Copy)]
 pub enum Named {
     Rule(Year),

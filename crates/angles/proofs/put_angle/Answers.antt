@@ -3,9 +3,6 @@ use Rattle.octets.proofs.PutLaws.{put_three}
 use Rattle.angles.specs.Angles.{degrees_of, letter_of, angle_text}
 use Rattle.octets.proofs.DigitLaws.{length_digits}
 use Rattle.octets.specs.Digits.{digits_of}
-use borrow.Author.Rules.{rules}
-use lib.ListN.{length-set}
-use mathlib.Core.Path.{◌∙◌}
 use Rattle.angles.proofs.put_angle.Goals as goal
 
 pub returns : goal.returns

@@ -1,7 +1,5 @@
 -- `grid_of` meets its contract: the grid is the one derived, and each of its numbers is within range.
-use mathlib.Core.Path.{◌≡◌}
-use native.Mathlib.Omega.{arith}
-use borrow.Author.Rules.{rules}
+use Rattle.std.proofs.Common.{◌≡◌, arith}
 use Rattle.layout.specs.Grid.{grid_of}
 use Rattle.layout.specs.declared.Grid.{Grid}
 use Rattle.layout.specs.Ranges.{Ranged}
@@ -10,28 +8,33 @@ use Rattle.layout.proofs.grid_of.Goals as goal
 use Rattle.layout.proofs.grid_of.Goals.{After-latitude_interval-latitude}
 
 module _ (c : After-latitude_interval-latitude) where
-  abbrev start : Start
-  start = (goal.at.GOAL c).Start
-
   abbrev grid : Grid
-  grid = grid_by start.args.level c.factor-factor.result c.latitude_interval-latitude.result
+  grid = grid_by c.args.level c.factor-factor.result c.latitude_interval-latitude.result
 
-  due : grid ≡ grid_of start.args.level start.args.edge
-  due =
-      grid_by_lem start.args.level start.args.edge c.factor-factor.result c.latitude_interval-latitude.result c.factor-factor.ensures
-      c.latitude_interval-latitude.ensures
+  due : grid ≡ grid_of c.args.level c.args.edge
+  due = grid_by_lem c.args.level c.args.edge c.factor-factor.result c.latitude_interval-latitude.result c.factor-factor.ensures c.latitude_interval-latitude.ensures
 
   within : Ranged grid
-  within = rw due (ranged start.args.level start.args.edge start.pre.level start.pre.edge)
+  within = rw due (ranged c.args.level c.args.edge c.requires.level c.requires.edge)
 
 pub overflow_mul-longitude : goal.overflow_mul-longitude
-overflow_mul-longitude c = omega (arith, within c)
+overflow_mul-longitude c = omega (arith, within (goal.at.overflow_mul-longitude c).After-latitude_interval-latitude)
 
 pub nonzero_div-columns : goal.nonzero_div-columns
-nonzero_div-columns c = ?
+nonzero_div-columns c = omega (arith, within (goal.at.nonzero_div-columns c).After-latitude_interval-latitude)
 
 pub nonzero_div-posts : goal.nonzero_div-posts
-nonzero_div-posts c = ?
+nonzero_div-posts c = omega (arith, within (goal.at.nonzero_div-posts c).After-latitude_interval-latitude)
+
+pub overflow_mul-cell : goal.overflow_mul-cell
+overflow_mul-cell c =
+    let w = within (goal.at.overflow_mul-cell c).After-latitude_interval-latitude in
+    columns_fit (omega (arith, w)) (omega (arith, w, c.column_bytes-column.ensures))
+
+pub overflow_add-cell : goal.overflow_add-cell
+overflow_add-cell c =
+    let w = within (goal.at.overflow_add-cell c).After-latitude_interval-latitude in
+    cell_fits (omega (arith, w)) (omega (arith, w, c.column_bytes-column.ensures))
 
 pub returns : goal.returns
-returns c = rw c.column_bytes_lem.ensures{-?-} (due (goal.at.returns c).After-latitude_interval-latitude)
+returns c = rw c.column_bytes-column.ensures (due (goal.at.returns c).After-latitude_interval-latitude)

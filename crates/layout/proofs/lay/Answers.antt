@@ -1,6 +1,5 @@
 -- `lay` meets its contract: the two refusals, and else the grid.
 use mathlib.Core.Path.{sym, ap, ◌∙◌}
-use borrow.Author.Rules.{rules}
 use borrow.Author.Tests.{lt-ltb, le-ltb}
 use Rattle.layout.specs.Grid.{laid}
 use Rattle.layout.specs.declared.Laid.TheVariants.{Out}

@@ -1,7 +1,6 @@
 -- `levels::latitude_interval` meets its contract: the table's entry, or past its end.
 use mathlib.Core.Path.{refl, sym}
 use lib.ListN.{get_or-eq_default}
-use borrow.Author.Rules.{rules}
 use Rattle.layout.specs.Levels.{intervals, latitude_interval}
 use Rattle.layout.proofs.levels.latitude_interval.Goals as goal
 

@@ -1,6 +1,6 @@
 -- `zones::factor` meets its contract: the zones that are left give the factor that all give.
 use mathlib.Core.Path.{◌≡◌, refl, sym, ap, ◌∙◌}
-use Prim.Native.Nat.{ℕ, ◌-◌, ◌≤◌}
+use Prim.Native.Nat.{ℕ}
 use native.Mathlib.Omega.{arith}
 use lib.ListN.{drop}
 use Rattle.layout.specs.Zones.{bounds, factors, factor_among, factor_of}

@@ -1,10 +1,8 @@
 -- `zones::factor` meets its contract: the zones that are left give the factor that all give.
-use mathlib.Core.Path.{◌≡◌, refl, sym, ap, ◌∙◌}
-use Prim.Native.Nat.{ℕ, ◌-◌, ◌≤◌}
-use native.Mathlib.Omega.{arith}
+use mathlib.Core.Path.{◌≡◌}
+use Prim.Native.Nat.{◌-◌, ◌≤◌}
 use lib.ListN.{drop}
 use Rattle.layout.specs.Zones.{bounds, factors, factor_among, factor_of}
-use Rattle.layout.proofs.Factors.{factor_here, factor_past}
 use Rattle.layout.proofs.zones.factor.Given as goal
 
 abbrev pub invariant-loop-i : goal.invariant-loop-i

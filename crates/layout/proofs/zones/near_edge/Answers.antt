@@ -1,6 +1,5 @@
 -- `zones::near_edge`: north of the equator, or south of it.
 use Rattle.layout.specs.Zones.{edge_of}
-use borrow.Author.Rules.{rules}
 use borrow.Author.Tests.{le-leb, lt-leb}
 use Rattle.layout.proofs.zones.near_edge.Goals as goal
 

@@ -1,9 +1,7 @@
 -- `are_digits`: what is left decides.
-use Rattle.std.proofs.Common.{◌≡◌, ◌+◌, ◌-◌, ◌≤◌, sym, ◌∙◌, add-zero, arith, rules}
+use Rattle.std.proofs.Common.{sym, ◌∙◌, arith}
 use Rattle.octets.proofs.DigitLaws.{digits_on, digits_stop, digits_done}
-use Rattle.octets.specs.Digits.{digits_at}
 use borrow.Author.Tests.{not-true, not-false}
-use native.Mathlib.Nat.{sub-zero}
 use Rattle.octets.proofs.digits.are_digits.Goals as goal
 
 pub returns-then-not-is_digit : goal.returns-then-not-is_digit

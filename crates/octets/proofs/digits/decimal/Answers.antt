@@ -1,5 +1,5 @@
 -- `decimal`: the value so far is that of the digits read.
-use Rattle.std.proofs.Common.{◌≡◌, ◌+◌, ◌-◌, ◌^◌, ◌<◌, ◌≤◌, refl, ap, ◌∙◌, arith, rules}
+use Rattle.std.proofs.Common.{◌≡◌, ◌+◌, refl, ap, ◌∙◌, arith}
 use Rattle.octets.proofs.DigitLaws.{decimal_step, decimal_below, decimal_small}
 use Rattle.octets.specs.Digits.{decimal_at}
 use Rattle.octets.specs.Places.{value}

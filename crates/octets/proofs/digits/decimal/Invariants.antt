@@ -1,8 +1,6 @@
 -- `decimal`: the value so far is that of the digits read.
-use Rattle.std.proofs.Common.{◌≡◌, ◌+◌, ◌-◌, ◌^◌, ◌<◌, ◌≤◌, refl, ap, ◌∙◌, arith, rules}
-use Rattle.octets.proofs.DigitLaws.{decimal_step, decimal_below, decimal_small}
+use Rattle.std.proofs.Common.{◌≡◌, ◌-◌, ◌^◌, ◌<◌, ◌≤◌}
 use Rattle.octets.specs.Digits.{decimal_at}
-use Rattle.octets.specs.Places.{value}
 use Rattle.octets.proofs.digits.decimal.Given as goal
 
 abbrev pub invariant-loop-i : goal.invariant-loop-i

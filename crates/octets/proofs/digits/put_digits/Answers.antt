@@ -1,8 +1,6 @@
 -- `put_digits`: what is left to put gives the whole.
-use Rattle.std.proofs.Common.{◌≡◌, ◌≤◌, length, sym, refl, ◌∙◌, arith, length-set, rules}
+use Rattle.std.proofs.Common.{sym, ◌∙◌, arith, length-set}
 use Rattle.octets.proofs.DigitLaws.{digits_next, digits_none}
-use Rattle.octets.specs.Digits.{digits_of}
-use Rattle.octets.specs.Pastes.{pasted}
 use Rattle.octets.proofs.digits.put_digits.Goals as goal
 
 pub loop-left-preserved : goal.loop-left-preserved

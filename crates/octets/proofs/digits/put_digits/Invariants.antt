@@ -1,6 +1,5 @@
 -- `put_digits`: what is left to put gives the whole.
-use Rattle.std.proofs.Common.{◌≡◌, ◌≤◌, length, sym, refl, ◌∙◌, arith, length-set, rules}
-use Rattle.octets.proofs.DigitLaws.{digits_next, digits_none}
+use Rattle.std.proofs.Common.{◌≡◌, ◌≤◌, length}
 use Rattle.octets.specs.Digits.{digits_of}
 use Rattle.octets.specs.Pastes.{pasted}
 use Rattle.octets.proofs.digits.put_digits.Given as goal

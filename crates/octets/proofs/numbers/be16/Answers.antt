@@ -1,6 +1,6 @@
 -- `be16` swaps the two bytes that were read.
 use Rattle.octets.proofs.NumberLaws.{swapped_number}
-use Rattle.std.proofs.Common.{◌∙◌, rules}
+use Rattle.std.proofs.Common.{◌∙◌}
 use Rattle.octets.proofs.numbers.be16.Goals as goal
 
 pub returns : goal.returns

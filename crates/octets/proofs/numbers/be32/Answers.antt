@@ -1,6 +1,6 @@
 -- `be32` is `be24` and one byte more.
 use Rattle.octets.specs.Places.{value}
-use Rattle.std.proofs.Common.{arith, rules}
+use Rattle.std.proofs.Common.{arith}
 use Rattle.octets.proofs.numbers.be32.Goals as goal
 
 pub returns : goal.returns

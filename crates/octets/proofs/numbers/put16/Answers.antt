@@ -1,6 +1,6 @@
 -- `put16`: swapped, the two bytes are the word's, the high one first.
 use Rattle.octets.proofs.NumberLaws.{swapped_bytes}
-use Rattle.std.proofs.Common.{arith, rules}
+use Rattle.std.proofs.Common.{arith}
 use Rattle.octets.proofs.numbers.put16.Goals as goal
 
 pub returns : goal.returns

@@ -1,7 +1,7 @@
 -- `put24` stores three bytes: a paste.
 use Rattle.octets.proofs.PasteLaws.{stores, two_on}
 use Rattle.octets.specs.Places.{places}
-use Rattle.std.proofs.Common.{add-one, arith, length-set, rules}
+use Rattle.std.proofs.Common.{add-one}
 use Rattle.octets.proofs.numbers.put24.Goals as goal
 
 pub returns : goal.returns

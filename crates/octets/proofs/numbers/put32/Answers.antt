@@ -1,7 +1,7 @@
 -- `put32` stores four bytes: a paste.
 use Rattle.octets.proofs.PasteLaws.{stores, two_on, three_on}
 use Rattle.octets.specs.Places.{places}
-use Rattle.std.proofs.Common.{add-one, arith, length-set, rules}
+use Rattle.std.proofs.Common.{add-one}
 use Rattle.octets.proofs.numbers.put32.Goals as goal
 
 pub returns : goal.returns

@@ -1,7 +1,6 @@
 -- `fill`: what stands so far is a paste of so many bytes of the value.
-use Rattle.std.proofs.Common.{◌≡◌, ℕ, ◌-◌, ◌≤◌, length, replicate, sym, refl, ap, ◌∙◌, arith, length-set, rules}
+use Rattle.std.proofs.Common.{sym, refl, arith, length-set}
 use Rattle.octets.proofs.PasteLaws.{paste_none, fill_more}
-use Rattle.octets.specs.Pastes.{pasted}
 use Rattle.octets.proofs.pastes.fill.Goals as goal
 
 pub loop-i-init : goal.loop-i-init

@@ -1,6 +1,5 @@
 -- `fill`: what stands so far is a paste of so many bytes of the value.
-use Rattle.std.proofs.Common.{◌≡◌, ℕ, ◌-◌, ◌≤◌, length, replicate, sym, refl, ap, ◌∙◌, arith, length-set, rules}
-use Rattle.octets.proofs.PasteLaws.{paste_none, fill_more}
+use Rattle.std.proofs.Common.{◌≡◌, ◌-◌, ◌≤◌, length, replicate}
 use Rattle.octets.specs.Pastes.{pasted}
 use Rattle.octets.proofs.pastes.fill.Given as goal
 

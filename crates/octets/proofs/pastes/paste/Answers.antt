@@ -1,7 +1,6 @@
 -- `paste`: what stands so far is a paste of the first bytes of `src`.
-use Rattle.std.proofs.Common.{◌≡◌, ◌-◌, ◌≤◌, length, take, sym, refl, ap, ◌∙◌, arith, length-set, take_all, rules}
+use Rattle.std.proofs.Common.{sym, refl, arith, length-set}
 use Rattle.octets.proofs.PasteLaws.{paste_none, paste_more}
-use Rattle.octets.specs.Pastes.{pasted}
 use Rattle.octets.proofs.pastes.paste.Goals as goal
 
 pub loop-i-init : goal.loop-i-init

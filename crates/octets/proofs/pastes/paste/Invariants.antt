@@ -1,6 +1,5 @@
 -- `paste`: what stands so far is a paste of the first bytes of `src`.
-use Rattle.std.proofs.Common.{◌≡◌, ◌-◌, ◌≤◌, length, take, sym, refl, ap, ◌∙◌, arith, length-set, take_all, rules}
-use Rattle.octets.proofs.PasteLaws.{paste_none, paste_more}
+use Rattle.std.proofs.Common.{◌≡◌, ◌-◌, ◌≤◌, length, take}
 use Rattle.octets.specs.Pastes.{pasted}
 use Rattle.octets.proofs.pastes.paste.Given as goal
 

@@ -1,6 +1,6 @@
 -- `bytes_of`: what the machine's subtraction leaves is the definition's.
 use Rattle.octets.proofs.SumLaws.{lows_only}
-use Rattle.std.proofs.Common.{arith, rules}
+use Rattle.std.proofs.Common.{arith}
 use Rattle.octets.proofs.sums.bytes_of.Goals as goal
 
 pub returns : goal.returns

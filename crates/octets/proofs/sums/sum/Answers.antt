@@ -1,7 +1,6 @@
 -- `sum`: what is summed so far and the sum of what is left are the whole.
-use Rattle.std.proofs.Common.{◌≡◌, ◌+◌, ◌-◌, ◌*◌, ◌≤◌, length, drop, arith, rules}
+use Rattle.std.proofs.Common.{arith}
 use Rattle.octets.proofs.SumLaws.{sum_step, sum_done}
-use Rattle.octets.specs.Sums.{sum_of}
 use Rattle.octets.proofs.sums.sum.Goals as goal
 
 pub loop-i-preserved : goal.loop-i-preserved

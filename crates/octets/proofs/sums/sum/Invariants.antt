@@ -1,6 +1,5 @@
 -- `sum`: what is summed so far and the sum of what is left are the whole.
-use Rattle.std.proofs.Common.{◌≡◌, ◌+◌, ◌-◌, ◌*◌, ◌≤◌, length, drop, arith, rules}
-use Rattle.octets.proofs.SumLaws.{sum_step, sum_done}
+use Rattle.std.proofs.Common.{◌≡◌, ◌+◌, ◌-◌, ◌*◌, ◌≤◌, length, drop}
 use Rattle.octets.specs.Sums.{sum_of}
 use Rattle.octets.proofs.sums.sum.Given as goal
 

@@ -1,7 +1,6 @@
 -- `differs`: what is left of `want` decides.
-use Rattle.std.proofs.Common.{◌≡◌, ◌+◌, ◌-◌, ◌≤◌, length, drop, sym, add-zero, arith, rules}
+use Rattle.std.proofs.Common.{arith}
 use Rattle.octets.proofs.TextLaws.{differ_here, differ_on, differ_done}
-use Rattle.octets.specs.Texts.{differ}
 use Rattle.octets.proofs.texts.differs.Goals as goal
 
 pub returns-then-s-at : goal.returns-then-s-at

@@ -1,6 +1,5 @@
 -- `differs`: what is left of `want` decides.
-use Rattle.std.proofs.Common.{◌≡◌, ◌+◌, ◌-◌, ◌≤◌, length, drop, sym, add-zero, arith, rules}
-use Rattle.octets.proofs.TextLaws.{differ_here, differ_on, differ_done}
+use Rattle.std.proofs.Common.{◌≡◌, ◌+◌, ◌-◌, ◌≤◌, length, drop}
 use Rattle.octets.specs.Texts.{differ}
 use Rattle.octets.proofs.texts.differs.Given as goal
 

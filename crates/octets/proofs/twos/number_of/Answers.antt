@@ -1,6 +1,6 @@
 -- `twos::number_of`: below the sign bit, and from it on.
 use Rattle.octets.proofs.TwosLaws.{low, high, high_fits}
-use Rattle.std.proofs.Common.{arith, to_z-of_z, rules}
+use Rattle.std.proofs.Common.{arith, to_z-of_z}
 use Rattle.octets.proofs.twos.number_of.Goals as goal
 
 pub returns-then-word-lt32768 : goal.returns-then-word-lt32768

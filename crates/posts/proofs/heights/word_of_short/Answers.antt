@@ -1,5 +1,5 @@
 -- `heights::word_of_short`: what the machine makes of 16 bits is the definition's word.
-use Rattle.std.proofs.Common.{◌≡◌, ℕ, ◌+◌, ◌%◌, ◌<◌, ℤ, pos, negsuc, sym, mod-eq_of_lt, arith, w16, rules}
+use Rattle.std.proofs.Common.{◌≡◌, ℕ, ◌+◌, ◌%◌, ◌<◌, ℤ, pos, negsuc, sym, mod-eq_of_lt, w16}
 use Rattle.octets.proofs.Signed.{Below, below, NotBelow, not_below}
 use Rattle.posts.specs.Heights.{word_of}
 use Rattle.posts.proofs.heights.word_of_short.Goals as goal
@@ -14,10 +14,10 @@ unfolding word_of
 from-zero-word z n e h = rw e (sym (mod-eq_of_lt h))
 
 under : (c : Then-metres-lt0) → Below w16 c.args.metres
-under c = below w16 c.args.metres c.ranges.metres{-?-} c.if-metres-lt0.true
+under c = below w16 c.args.metres c.ranges.metres {-?-} c.if-metres-lt0.true
 
 over : (c : Else-metres-lt0) → NotBelow w16 c.args.metres
-over c = not_below w16 c.args.metres c.ranges.metres{-?-} c.if-metres-lt0.false
+over c = not_below w16 c.args.metres c.ranges.metres {-?-} c.if-metres-lt0.false
 
 pub returns-then-metres-lt0 : goal.returns-then-metres-lt0
 returns-then-metres-lt0 c = rw (under c).back (below_word _ _ (under c).is)

@@ -1,10 +1,10 @@
 -- `words::post_of`: what the machine reads back from 16 bits is the height that the definition names.
-use Rattle.std.proofs.Common.{sym, ap, ◌∙◌, w16, rules, eq-eqb}
+use Rattle.std.proofs.Common.{sym, ap, ◌∙◌, w16, arith, eq-eqb}
 use mir.Facts.{to_z_pos}
 use Rattle.posts.specs.Words.{post_of}
 use Rattle.posts.specs.declared.Post.TheVariants.{Height}
 use Rattle.posts.proofs.PostWords.{up_post, down_post}
-use Rattle.octets.proofs.Signed.{minus_fits, minus_back}
+use Rattle.octets.proofs.Signed.{minus_back}
 use Rattle.posts.proofs.words.post_of.Goals as goal
 
 pub returns-then-word-eq65535 : goal.returns-then-word-eq65535
@@ -17,4 +17,4 @@ returns-then-word-lt32768 c = ap Height (to_z_pos w16 c.if-word-lt32768.true) �
 pub returns : goal.returns
 returns c =
     let w = c.args.word in
-    ap Height (minus_back w16 _ (cast-magnitude c)) ∙ sym (down_post w c.if-word-lt32768.false c.if-word-eq65535.false)
+    ap Height (minus_back w16 _ (record { sfits = omega arith })) ∙ sym (down_post w c.if-word-lt32768.false c.if-word-eq65535.false)
