@@ -42,7 +42,6 @@ impl Source for Stdin {
 }
 
 // What a piece was filled with: so many bytes, or what the read answered that failed.
-#[derive(Drop)]
 #[derive(Clone, Copy)]
 enum Filled {
     Bytes(usize),
@@ -50,7 +49,6 @@ enum Filled {
 }
 
 // What the input was found to be; unread, with what the read answered that failed.
-#[derive(Drop)]
 #[derive(Clone, Copy)]
 enum Found {
     Answer(Verdict),
