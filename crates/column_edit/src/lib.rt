@@ -1,5 +1,6 @@
 // Storing one post of a good column: its word, and the checksum that the column then has.
 #![tactic(auto)]
+
 ghost use Rattle.std.specs.Prelude.{◌≡◌};
 ghost use Rattle.column_edit.specs.Asked.{Storable};
 ghost use Rattle.column_edit.specs.Stored.{stored};

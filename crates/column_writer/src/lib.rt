@@ -1,5 +1,6 @@
 // The column writer: one column from a level, its number and its heights, voids allowed.
 #![tactic(auto)]
+
 ghost use Rattle.std.specs.Prelude.{◌≡◌};
 ghost use Rattle.answers.specs.Told as told;
 ghost use Rattle.sources.specs.Heights.{heights_from};

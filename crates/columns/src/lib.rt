@@ -1,5 +1,6 @@
 // One data column: its preamble, its checksum and its post words, judged and written over any number of posts.
 #![tactic(auto)]
+
 ghost use Rattle.std.specs.Prelude.{◌≡◌};
 ghost use Rattle.columns.specs.Asked.{Whole, WholeSummed};
 ghost use Rattle.columns.specs.Judged.{head_of, judged_column};

@@ -1,5 +1,6 @@
 // The description of a cell: the thirteen items that its headers say, read from them and ranged, and what they make due.
 #![tactic(auto)]
+
 use answers::Refusal;
 
 pub mod describe;

@@ -7,29 +7,25 @@ ghost use Rattle.lookup.specs.Lookup.{looked_up};
 ghost use Rattle.position.specs.Position.{located};
 ghost use Rattle.edit.specs.Edit.{edit_told, edited};
 
-#[unsafe(no_mangle)]
-pub extern "C" fn dted_intake(named: u32, cell: &[u8]) -> u64
+pub fn dted_intake(named: u32, cell: &[u8]) -> u64
     ensures { result ≡ packed (under named (λ year. taken year cell.now)) }
 {
     host_answers::verdict(intake::intake(named, cell))
 }
 
-#[unsafe(no_mangle)]
-pub extern "C" fn dted_post(named: u32, cell: &[u8], column: u64, post: u64) -> u64
+pub fn dted_post(named: u32, cell: &[u8], column: u64, post: u64) -> u64
     ensures { result ≡ packed (under named (λ year. looked_up year cell.now column post)) }
 {
     host_answers::reading(lookup::look_up(named, cell, column as usize, post as usize))
 }
 
-#[unsafe(no_mangle)]
-pub extern "C" fn dted_position(named: u32, cell: &[u8], latitude: i64, longitude: i64) -> u64
+pub fn dted_position(named: u32, cell: &[u8], latitude: i64, longitude: i64) -> u64
     ensures { result ≡ packed (under named (λ year. located year cell.now latitude longitude)) }
 {
     host_answers::located(position::locate(named, cell, latitude, longitude))
 }
 
-#[unsafe(no_mangle)]
-pub extern "C" fn dted_edit(named: u32, cell: &mut [u8], column: u64, post: u64, height: i64) -> u64
+pub fn dted_edit(named: u32, cell: &mut [u8], column: u64, post: u64, height: i64) -> u64
     ensures answer { result ≡ packed (under named (λ year. edit_told year cell.old column post height)) }
     ensures lent { cell.new ≡ left_under named cell.old (λ year. edited year cell.old column post height) }
 {

@@ -8,8 +8,7 @@ use description::Described;
 use host_items::items::ITEMS;
 use host_items::numbers::put_numbers;
 
-#[unsafe(no_mangle)]
-pub extern "C" fn dted_describe(cell: &[u8], items: &mut [i64; ITEMS]) -> u64
+pub fn dted_describe(cell: &[u8], items: &mut [i64; ITEMS]) -> u64
     ensures answer { result ≡ packed (said_of_described (described cell.now)) }
     ensures lent { items.new ≡ items_after (described cell.now) items.old }
 {

@@ -19,8 +19,7 @@ fn from_south(latitude: i64) -> usize
     }
 }
 
-#[unsafe(no_mangle)]
-pub extern "C" fn dted_grid(level: u64, latitude: i64) -> u64
+pub fn dted_grid(level: u64, latitude: i64) -> u64
     ensures { result ≡ packed (grid_told level latitude) }
 {
     match layout::lay(level as usize, near_edge(from_south(latitude))) {

@@ -1,5 +1,6 @@
-// The library as a C host links it: include/dted.h says what each call is for. Each packs the answer of the function below it.
+// The calls that a C host links, under their names there: `dted_c` exports each, and include/dted.h says what it is for. Each packs the answer of the function below it.
 #![tactic(auto)]
+
 pub mod cells;
 pub mod descriptions;
 pub mod grids;

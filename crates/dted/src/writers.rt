@@ -7,8 +7,7 @@ ghost use Rattle.host_writers.specs.Column.{column_bytes_told, column_bytes_outp
 
 use host_items::items::ITEMS;
 
-#[unsafe(no_mangle)]
-pub extern "C" fn dted_write(named: u32, out: &mut [u8], items: &[i64; ITEMS], grid: &[u8]) -> u64
+pub fn dted_write(named: u32, out: &mut [u8], items: &[i64; ITEMS], grid: &[u8]) -> u64
     ensures answer { result ≡ packed (under named (λ year. bytes_told year items.now grid.now out.old)) }
     ensures lent { out.new ≡ left_under named out.old (λ year. bytes_output year items.now grid.now out.old) }
 {
@@ -16,8 +15,7 @@ pub extern "C" fn dted_write(named: u32, out: &mut [u8], items: &[i64; ITEMS], g
     host_answers::outcome(answer)
 }
 
-#[unsafe(no_mangle)]
-pub extern "C" fn dted_write_column(out: &mut [u8], level: u64, number: u64, posts: &[u8]) -> u64
+pub fn dted_write_column(out: &mut [u8], level: u64, number: u64, posts: &[u8]) -> u64
     ensures answer { result ≡ packed (column_bytes_told level number posts.now out.old) }
     ensures lent { out.new ≡ column_bytes_output level number posts.now out.old }
 {

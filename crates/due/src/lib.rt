@@ -1,6 +1,7 @@
 // What is due in a field of the headers, as bytes: the judge compares with it, and the writer puts it.
 // Inside, a latitude is counted in whole degrees from 90 S and a longitude from 180 W, so that both are unsigned.
 #![tactic(auto)]
+
 use layout::{Bytes, Grid, Interval};
 
 pub mod compare;

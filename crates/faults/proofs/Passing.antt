@@ -215,7 +215,7 @@ one_alone (kind.Due d) b r e u v p q = one_passes d b r e u p.0 p.1 ∙ sym (one
 
 -- what is said of a place hangs on which strings pass, and on nothing else of the basis
 pub placed_alike : (k : Kind) (b c : Basis) (t : List ℕ) (at : ℕ) → ((u : List ℕ) → holds k b u ≡ holds k c u) → Placed k b t at → Placed k c t at
-placed_alike k b c t at same p = record {
+placed_alike k b c t i same p = record {
   inside = p.inside;
   one = λ u q only. p.one u (q.0, same u ∙ q.1) (λ v h. only v (h.0, sym (same v) ∙ h.1));
   two = λ u v q r ne. p.two u v (q.0, same u ∙ q.1) (r.0, same v ∙ r.1) ne;

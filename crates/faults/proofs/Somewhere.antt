@@ -22,7 +22,6 @@ use Rattle.answers.specs.declared.Refusal.TheVariants as because
 use Rattle.fields.specs.declared.Number.{Number}
 use Rattle.fields.specs.declared.Angle.{Angle}
 use Rattle.fields.specs.declared.Angle.TheVariants as angle
-use Rattle.fields.specs.declared.Text.{Text}
 use Rattle.fields.specs.declared.Due.{Due}
 use Rattle.fields.specs.declared.Due.TheVariants as due
 use Rattle.due.specs.Due.{number_of}

@@ -1,5 +1,6 @@
 // What a field that breaks its rule is refused as: which of 21, 22 and 23, and where.
 #![tactic(auto)]
+
 ghost use Rattle.std.specs.Prelude.{◌≡◌, length};
 ghost use Rattle.octets.specs.Choice.{pick};
 ghost use Rattle.due.specs.Due.{due_width};

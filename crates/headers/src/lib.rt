@@ -1,5 +1,6 @@
 // Headers: the 3,428 bytes before the first column, judged field by field in the order of the table.
 #![tactic(auto)]
+
 use answers::Refusal;
 use layout::Grid;
 

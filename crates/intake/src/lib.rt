@@ -1,5 +1,6 @@
 // Intake of a whole cell from any bytes: the headers, then column after column from the west.
 #![tactic(auto)]
+
 ghost use Rattle.std.specs.Prelude.{◌≡◌};
 ghost use Rattle.answers.specs.Told as told;
 ghost use Rattle.years.specs.Years.{under};

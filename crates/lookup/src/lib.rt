@@ -1,5 +1,6 @@
 // Lookup of one post by its column and number.
 #![tactic(auto)]
+
 ghost use Rattle.std.specs.Prelude.{◌≡◌};
 ghost use Rattle.answers.specs.Told as told;
 ghost use Rattle.years.specs.Years.{under};

@@ -1,6 +1,7 @@
 // Where a writer's heights come from: a choice by value, beside the two slices that it may mean; the other one is empty. So one loop serves
 // every source.
 #![tactic(auto)]
+
 ghost use Rattle.std.specs.Prelude.{◌≡◌, ◌<◌};
 ghost use Rattle.sources.specs.Heights.{heights_from, count_of, nth_height, counts};
 

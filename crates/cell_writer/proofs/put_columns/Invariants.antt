@@ -15,9 +15,10 @@ use mathlib.Core.Path.{◌≡◌, ap, ◌∙◌}
 use native.Mathlib.Omega.{arith}
 use Rattle.cell_writer.proofs.put_columns.Given as goal
 
+-- the columns that stand, and the heights that they used
 pub record Inv (out₀ : List ℕ) (columns posts : ℕ) (g : Heights) (out : List ℕ) (k at from : ℕ) : Type 0 where
-  so_far : SoFar posts columns (words_of (heights_of g)) out₀ out k at
-  from-part : from ≡ k * posts
+  pub so_far : SoFar posts columns (words_of (heights_of g)) out₀ out k at
+  pub from_part : from ≡ k * posts
 
 abbrev pub invariant-loop-k : goal.invariant-loop-k
 invariant-loop-k l = Inv l.initial.out l.columns l.posts (heights_from l.source l.numbers l.bytes) l.out l.k l.at l.from

@@ -1,10 +1,6 @@
 -- `judge`: what is left of the words answers as the whole column.
-use Rattle.std.proofs.Common.{◌≡◌, ◌-◌, ◌≤◌, sym, ◌∙◌, arith, rules}
-use Rattle.columns.proofs.WordSearch.{word_on, word_stop, words_end, searched_from, starts_within}
-use Rattle.posts.specs.Words.{word_allowed}
-use Rattle.columns.specs.Column.{word_in}
+use Rattle.std.proofs.Common.{◌≡◌, ◌-◌, ◌≤◌}
 use Rattle.columns.specs.Judged.{words_from, judged_column}
-use borrow.Author.Tests.{not-true, not-false}
 use Rattle.columns.proofs.judge.Given as goal
 
 abbrev pub invariant-loop-i : goal.invariant-loop-i

@@ -1,37 +1,26 @@
 -- `take_columns`: what is left of the columns, and within one of its words, answers as the whole.
 use Prim.Native.Nat.{ℕ, ◌+◌, ◌-◌, ◌≤◌}
-use Rattle.columns.proofs.WordSearch.{word_on, word_stop, words_end, searched_from, starts_within}
-use Rattle.columns.specs.Column.{word_in}
-use Rattle.columns.specs.Judged.{and_then, words_from}
-use Rattle.columns.specs.declared.JudgedColumn.{JudgedColumn}
+use Rattle.columns.specs.Judged.{words_from}
 use Rattle.layout.specs.declared.Frame.{Frame}
-use Rattle.octets.proofs.PasteLaws.{length_part}
-use Rattle.posts.specs.Words.{word_allowed}
-use Rattle.cells.proofs.ColumnPlaces.{next_start, part_is}
 use Rattle.cells.specs.Cell.{start_of}
-use Rattle.intake.proofs.Turns.{turn_cut, turn_as, turn_end}
 use Rattle.intake.specs.Intake.{or_rest, columns_from}
-use borrow.Author.Rules.{rules}
-use borrow.Author.Tests.{not-true, not-false}
-use lib.ListN.{length, take, drop}
+use lib.ListN.{length}
 use mathlib.Core.List.{List}
-use mathlib.Core.Path.{◌≡◌, sym, ◌∙◌}
-use native.Mathlib.Nat.{sub-zero, add-sub_cancel_left}
-use native.Mathlib.Omega.{arith}
+use mathlib.Core.Path.{◌≡◌}
 use Rattle.intake.proofs.take_columns.Given as goal
 
 -- from column k on, at its start, what is left answers as the whole
 pub record ColumnsLeft (cell : List ℕ) (f : Frame) (k base : ℕ) : Type 0 where
-  due : k ≤ f.grid.columns
-  start : base ≡ start_of f.grid k
-  there : base ≤ length cell
-  left : columns_from cell f k (f.grid.columns - k) ≡ columns_from cell f 0 f.grid.columns
+  pub due : k ≤ f.grid.columns
+  pub start : base ≡ start_of f.grid k
+  pub there : base ≤ length cell
+  pub left : columns_from cell f k (f.grid.columns - k) ≡ columns_from cell f 0 f.grid.columns
 
 -- and within column k, from word i on
 pub record WordsLeft (cell : List ℕ) (f : Frame) (k base : ℕ) (column : List ℕ) (i : ℕ) : Type 0 where
-  due : i ≤ f.grid.posts
-  long : length column ≡ f.grid.bytes.column
-  left : or_rest (words_from column f.voids base i (f.grid.posts - i)) (columns_from cell f (k + 1) (f.grid.columns - (k + 1)))
+  pub due : i ≤ f.grid.posts
+  pub long : length column ≡ f.grid.bytes.column
+  pub left : or_rest (words_from column f.voids base i (f.grid.posts - i)) (columns_from cell f (k + 1) (f.grid.columns - (k + 1)))
       ≡ columns_from cell f 0 f.grid.columns
 
 abbrev pub invariant-loop-i : goal.invariant-loop-i

@@ -1,13 +1,8 @@
 -- `judge_heights`: what is left after the parts so far answers as all heights.
-use Prim.Native.Nat.{◌+◌, ◌-◌, ◌≤◌}
-use native.Mathlib.Nat.{sub-zero}
-use native.Mathlib.Omega.{arith}
-use mathlib.Core.Path.{◌≡◌, sym, ◌∙◌}
-use borrow.Author.Rules.{rules}
-use borrow.Author.Tests.{not-false}
+use Prim.Native.Nat.{◌-◌, ◌≤◌}
+use mathlib.Core.Path.{◌≡◌}
 use Rattle.sources.specs.Heights.{heights_from}
 use Rattle.column_writer.specs.Judged.{heights_from_then, heights_then, room_for}
-use Rattle.column_writer.proofs.HeightParts.{part_passed, all_passed}
 use Rattle.column_writer.proofs.judge.judge_heights.Given as goal
 
 abbrev pub invariant-loop-i : goal.invariant-loop-i

@@ -1,18 +1,15 @@
 -- `measure`: the parts so far, and what is left, are the whole column.
-use Rattle.std.proofs.Common.{◌≡◌, ℕ, ◌+◌, ◌-◌, ◌*◌, ◌≤◌, Bool, List, take, drop, ◌∙◌, zero-add, arith, rules}
-use native.Mathlib.Nat.{sub-zero}
+use Rattle.std.proofs.Common.{◌≡◌, ℕ, ◌+◌, ◌-◌, ◌*◌, ◌≤◌, Bool, List, drop}
 use Rattle.octets.specs.Choice.{both}
 use Rattle.octets.specs.Sums.{sum_of}
-use Rattle.octets.proofs.SumLaws.{sum_parts}
 use Rattle.posts.specs.Words.{words_allowed}
-use Rattle.posts.proofs.PartLaws.{part_on}
 use Rattle.columns.proofs.measure.measure.Given as goal
 
 pub record Measured (column : List ℕ) (posts : ℕ) (voids : Bool) (total : ℕ) (allowed : Bool) (i : ℕ) : Type 0 where
-  due : i ≤ posts
-  small : total ≤ 2040 + 510 * i
-  summed : total + sum_of (drop (8 + 2 * i) column) ≡ sum_of column
-  left : both allowed (words_allowed voids column (8 + 2 * i) (posts - i)) ≡ words_allowed voids column 8 posts
+  pub due : i ≤ posts
+  pub small : total ≤ 2040 + 510 * i
+  pub summed : total + sum_of (drop (8 + 2 * i) column) ≡ sum_of column
+  pub left : both allowed (words_allowed voids column (8 + 2 * i) (posts - i)) ≡ words_allowed voids column 8 posts
 
 abbrev pub invariant-loop-i : goal.invariant-loop-i
 invariant-loop-i l = Measured l.column l.posts l.voids l.total l.allowed l.i

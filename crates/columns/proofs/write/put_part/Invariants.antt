@@ -1,8 +1,7 @@
 -- `put_part`: the words of the first heights stand, and their sums are known.
-use Rattle.std.proofs.Common.{◌≡◌, ◌+◌, ◌-◌, ◌≤◌, ◌∙◌, arith, to_z-of_z, w16, to_z, of_z, rules}
-use Rattle.posts.specs.Heights.{word_of}
-use Rattle.sources.specs.Heights.{heights_from, nth_height}
-use Rattle.columns.proofs.WordParts.{Stand, none_stand, one_more}
+use Rattle.std.proofs.Common.{◌-◌, ◌≤◌}
+use Rattle.sources.specs.Heights.{heights_from}
+use Rattle.columns.proofs.WordParts.{Stand}
 use Rattle.columns.proofs.write.put_part.Given as goal
 
 abbrev pub invariant-loop-i : goal.invariant-loop-i

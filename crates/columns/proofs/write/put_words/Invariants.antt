@@ -1,7 +1,7 @@
 -- `put_words`: the words of the parts so far stand, and the sum of their bytes is known.
-use Rattle.std.proofs.Common.{◌≡◌, ℕ, ◌+◌, ◌-◌, ◌*◌, ◌≤◌, arith, rules}
-use Rattle.sources.specs.Heights.{Heights, heights_from}
-use Rattle.columns.proofs.WordParts.{Summed, none_summed, part_more, sum_most}
+use Rattle.std.proofs.Common.{◌-◌, ◌≤◌}
+use Rattle.sources.specs.Heights.{heights_from}
+use Rattle.columns.proofs.WordParts.{Summed}
 use Rattle.columns.proofs.write.put_words.Given as goal
 
 abbrev pub invariant-loop-i : goal.invariant-loop-i

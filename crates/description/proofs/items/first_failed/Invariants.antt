@@ -1,13 +1,8 @@
 -- `first_failed`: the tests that are left give the number that all give.
 use Prim.Native.Nat.{◌+◌, ◌-◌, ◌≤◌}
-use Rattle.description.proofs.RangedItems.{failed_on, failed_here, failed_done}
 use Rattle.description.specs.Items.{first_failed}
-use borrow.Author.Rules.{rules}
-use borrow.Author.Tests.{not-true, not-false}
 use lib.ListN.{length, drop}
-use mathlib.Core.Bool.{false}
-use mathlib.Core.Path.{◌≡◌, refl, sym, ◌∙◌}
-use native.Mathlib.Omega.{arith}
+use mathlib.Core.Path.{◌≡◌}
 use Rattle.description.proofs.items.first_failed.Given as goal
 
 abbrev pub invariant-loop-i : goal.invariant-loop-i

@@ -1,24 +1,16 @@
 -- `in_zones`: no zone so far has the number.
 use Prim.Native.Nat.{ℕ, ◌-◌, ◌≤◌}
-use native.Mathlib.Numerals.{add-one}
-use native.Mathlib.Omega.{arith}
-use mathlib.Core.Path.{◌≡◌, refl, sym, ap, ◌∙◌}
-use mathlib.Core.Bool.{Bool, false}
+use mathlib.Core.Path.{◌≡◌}
+use mathlib.Core.Bool.{false}
 use lib.Dec.{eqb}
-use borrow.Author.Rules.{rules}
-use borrow.Author.Tests.{eq-eqb, ne_eqb}
 use Rattle.octets.specs.Tests.{some_below}
-use Rattle.octets.proofs.TestLaws.{some_found}
 use Rattle.layout.specs.Grid.{grid_of}
 use Rattle.layout.specs.Zones.{last_edge}
-use Rattle.layout.proofs.NearEdges.{last_below}
-use Rattle.fields.specs.declared.Number.{Number}
 use Rattle.due.specs.Due.{number_of}
-use Rattle.faults.specs.Ever.{in_zones}
 use Rattle.faults.proofs.ever.in_zones.Given as goal
 
 abbrev pub invariant-loop-zone : goal.invariant-loop-zone
-invariant-loop-zone l = (l.zone ≤ 5) × (some_below (has l.name l.level l.v) l.zone ≡ false)
+invariant-loop-zone l = (l.zone ≤ 5) × (some_below (λ (zone : ℕ). eqb (number_of l.name (grid_of l.level (last_edge zone))) l.v) l.zone ≡ false)
 
 abbrev pub decreases-loop-zone : goal.decreases-loop-zone
 decreases-loop-zone l = 5 - l.zone

@@ -1,14 +1,10 @@
 -- `put_areas`: the areas that are left give what all give.
-use Prim.Native.Nat.{ℕ, ◌+◌, ◌-◌, ◌≤◌}
-use Rattle.header_writer.proofs.TableTurns.{area_fits_lem, areas_on, areas_done}
+use Prim.Native.Nat.{◌-◌, ◌≤◌}
 use Rattle.header_writer.specs.Written.{with_areas}
 use Rattle.fields.specs.Free.{areas}
 use Rattle.layout.specs.Grid.{header_bytes}
-use borrow.Author.Rules.{rules}
 use lib.ListN.{length, drop}
-use mathlib.Core.List.{List}
-use mathlib.Core.Path.{◌≡◌, refl, sym, ap, ◌∙◌}
-use native.Mathlib.Omega.{arith}
+use mathlib.Core.Path.{◌≡◌}
 use Rattle.header_writer.proofs.write.put_areas.Given as goal
 
 abbrev pub invariant-loop-i : goal.invariant-loop-i

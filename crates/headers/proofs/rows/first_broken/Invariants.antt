@@ -1,10 +1,7 @@
 -- `first_broken`: the rows that are left are searched as all are.
 use Prim.Native.Nat.{◌-◌, ◌≤◌}
-use Rattle.headers.proofs.BrokenRows.{first_in, search_stop, search_on, search_done}
-use borrow.Author.Rules.{rules}
-use borrow.Author.Tests.{not-true, not-false}
-use mathlib.Core.Path.{◌≡◌, refl, sym, ◌∙◌}
-use native.Mathlib.Omega.{arith}
+use Rattle.headers.proofs.BrokenRows.{first_in}
+use mathlib.Core.Path.{◌≡◌}
 use Rattle.headers.proofs.rows.first_broken.Given as goal
 
 abbrev pub invariant-loop-row : goal.invariant-loop-row
