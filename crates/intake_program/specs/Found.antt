@@ -1,6 +1,6 @@
--- What the program finds on standard input (rule S7): a final answer that a step gives, or a negative number, as a failed read answers.
-use Rattle.std.specs.Prelude.{◌≡◌, true, List, ℕ, ◌≤◌, length, ℤ, pos}
-use Rattle.std.specs.Int.Signed.{lt_z}
+-- What the program finds on standard input (rule S7): a final answer that a step gives, or an error, as a failed read answers.
+use Rattle.std.specs.Prelude.{◌≡◌, true, List, ℕ, ◌≤◌, length}
+use Rattle.std.specs.declared.io.Error.{Error}
 use Rattle.answers.specs.Told.{told, intake}
 use Rattle.answers.specs.declared.Verdict.{Verdict}
 use Rattle.steps.specs.Steps.{said_of, wanted}
@@ -24,14 +24,11 @@ pub record Last (answer : Verdict) : Type 0 where
   pub said : told intake answer ≡ said_of phase piece
   pub within : length piece ≤ wanted phase
 
--- a call of read that fails answers a negative number
-abbrev pub IsFailure : ℤ → Type 0
-IsFailure got = lt_z got (pos 0) ≡ true
+-- where a read that fails answers such an error
+abbrev pub FilledUpTo : (Error → Type 0) → ℕ → Filled → Type 0
+FilledUpTo IsFailure wanted (Bytes n) = n ≤ wanted
+FilledUpTo IsFailure wanted (Failed error) = IsFailure error
 
-abbrev pub FilledUpTo : ℕ → Filled → Type 0
-FilledUpTo wanted (Bytes n) = n ≤ wanted
-FilledUpTo wanted (Failed got) = IsFailure got
-
-abbrev pub Settled : Found → Type 0
-Settled (Answer v) = Last v
-Settled (Unread got) = IsFailure got
+abbrev pub Settled : (Error → Type 0) → Found → Type 0
+Settled IsFailure (Answer v) = Last v
+Settled IsFailure (Unread error) = IsFailure error

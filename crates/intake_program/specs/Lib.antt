@@ -1,2 +1,3 @@
 -- What the program hands out.
 pub mod Found
+pub mod Printed

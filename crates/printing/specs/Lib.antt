@@ -1,2 +1,3 @@
--- The line that tells an answer.
+-- The line that tells an answer, and what a writer holds of it.
 pub mod Line
+pub mod Written

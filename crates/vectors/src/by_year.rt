@@ -1,33 +1,35 @@
 // The rule year: a partial level 0 cell with a void under each and under years that there are not, and steps under one of these.
-use crate::{CELL, OUTPUT};
+use crate::{CELL, print_verdict};
+use std::io;
 use steps::Steps;
 
-fn judge_under(named: u32, cell: &[u8]) {
-    printing::verdict(OUTPUT, intake::intake(named, cell));
+fn judge_under(rt: &impl Print, named: u32, cell: &[u8]) -> io::Result<()> {
+    print_verdict(rt, intake::intake(named, cell))
 }
 
 // What the first step answers, and the next one.
-fn print_steps(named: u32, cell: &[u8]) {
+fn print_steps(rt: &impl Print, named: u32, cell: &[u8]) -> io::Result<()> {
     let first = Steps::new(named).step(cell);
     let answer = first.answer;
-    printing::verdict(OUTPUT, answer);
+    print_verdict(rt, answer)?;
     let later = first.steps;
     let second = later.step(b"");
     let again = second.answer;
-    printing::verdict(OUTPUT, again);
+    print_verdict(rt, again)
 }
 
-fn judge_cell(cell: &[u8]) {
-    judge_under(1, cell);
-    judge_under(2, cell);
-    judge_under(0, cell);
-    judge_under(3, cell);
-    judge_under(4294967295, b"");
-    print_steps(3, cell);
+fn judge_cell(rt: &impl Print, cell: &[u8]) -> io::Result<()> {
+    judge_under(rt, 1, cell)?;
+    judge_under(rt, 2, cell)?;
+    judge_under(rt, 0, cell)?;
+    judge_under(rt, 3, cell)?;
+    judge_under(rt, 4294967295, b"")?;
+    print_steps(rt, 3, cell)
 }
 
-pub fn run(cell: &[u8]) {
+pub fn run(rt: &impl Print, cell: &[u8]) -> io::Result<()> {
     if CELL <= cell.len() {
-        judge_cell(&cell[..CELL]);
+        judge_cell(rt, &cell[..CELL])?;
     }
+    Ok(())
 }

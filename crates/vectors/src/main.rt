@@ -1,19 +1,19 @@
 // The examples that are run, not marked: whole cells streamed from the column writer, intake of the cell on standard input, changed in known ways, and the writer over heights.
 #![tactic(auto)]
+
 ghost use Rattle.std.specs.Prelude.{◌<◌};
 
+use answers::Verdict;
 use description::{Accuracies, Accuracy, Datum, Description};
 use layout::HEADER_BYTES;
+use std::io;
+use std::io::{Input, Read};
 
 mod by_year;
 mod said;
 mod sea;
 mod stream;
 mod writer;
-
-const INPUT: i32 = 0;
-
-const OUTPUT: i32 = 1;
 
 // The rule year where an example does not turn on it.
 const YEAR: u32 = 2;
@@ -23,23 +23,28 @@ const CELL: usize = 34162;
 
 const ROOM: usize = 34163;
 
+// The line of a verdict.
+fn print_verdict(rt: &impl Print, verdict: Verdict) -> io::Result<()> {
+    printing::verdict(&mut io::writer(rt), verdict)
+}
+
 // The length of a zone I cell of a level, and what its pieces answer.
-fn print_streamed(level: usize)
+fn print_streamed(rt: &impl Print, level: usize) -> io::Result<()>
     requires { level < 3 }
 {
     let grid = layout::grid_of(level, 0);
     let bytes = grid.bytes;
-    io::print_decimal(OUTPUT, bytes.cell as u64);
-    io::write_all(OUTPUT, b" bytes\n");
+    println!(rt; "{} bytes", bytes.cell)?;
     let answer = stream::stream(level, grid.columns, grid.posts);
-    printing::verdict(OUTPUT, answer);
+    print_verdict(rt, answer)
 }
 
 // Intake of the first n bytes.
-fn judge(cell: &[u8], n: usize) {
+fn judge(rt: &impl Print, cell: &[u8], n: usize) -> io::Result<()> {
     if n <= cell.len() {
-        printing::verdict(OUTPUT, intake::intake(YEAR, &cell[..n]));
+        print_verdict(rt, intake::intake(YEAR, &cell[..n]))?;
     }
+    Ok(())
 }
 
 // Post 0 of column 0 made this word, and the checksum mended.
@@ -85,32 +90,49 @@ fn put_headers(cell: &mut [u8], d: Description) {
 }
 
 // A state without a level, one without a zone, and one whose column is missing.
-fn print_made_up() {
-    printing::verdict(OUTPUT, stream::from_made_up(3, 0));
-    printing::verdict(OUTPUT, stream::from_made_up(0, 90));
-    printing::verdict(OUTPUT, stream::from_made_up(0, 89));
+fn print_made_up(rt: &impl Print) -> io::Result<()> {
+    print_verdict(rt, stream::from_made_up(3, 0))?;
+    print_verdict(rt, stream::from_made_up(0, 90))?;
+    print_verdict(rt, stream::from_made_up(0, 89))
 }
 
-fn main() {
-    print_streamed(0);
-    print_streamed(1);
-    print_streamed(2);
-    print_made_up();
+// Reads until the buffer is full, the input ends or a read fails.
+fn read_full<R: Read>(input: &mut R, buffer: &mut [u8]) {
+    let mut done = 0;
+    while done < buffer.len() {
+        let more = input.read(&mut buffer[done..]).unwrap_or(0);
+        if more == 0 {
+            return;
+        }
+        done += more;
+    }
+}
+
+fn run<R: Input + Print>(rt: &R) -> io::Result<()> {
+    print_streamed(rt, 0)?;
+    print_streamed(rt, 1)?;
+    print_streamed(rt, 2)?;
+    print_made_up(rt)?;
     let mut cell = [0u8; ROOM];
-    io::read_full(INPUT, &mut cell);
-    judge(&cell, 3427);
-    judge(&cell, 3428);
-    judge(&cell, CELL - 1);
-    judge(&cell, CELL);
-    judge(&cell, ROOM);
+    read_full(&mut rt.reader(), &mut cell);
+    judge(rt, &cell, 3427)?;
+    judge(rt, &cell, 3428)?;
+    judge(rt, &cell, CELL - 1)?;
+    judge(rt, &cell, CELL)?;
+    judge(rt, &cell, ROOM)?;
     put_headers(&mut cell, description(0, 0, 0));
-    judge(&cell, CELL);
+    judge(rt, &cell, CELL)?;
     put_headers(&mut cell, description(0, 359, 0));
-    judge(&cell, CELL);
-    sea::run(&mut cell);
+    judge(rt, &cell, CELL)?;
+    sea::run(rt, &mut cell)?;
     put_word(&mut cell, 0xFFFF);
-    judge(&cell, CELL);
+    judge(rt, &cell, CELL)?;
     put_headers(&mut cell, description(0, 359, 7));
-    by_year::run(&cell);
-    writer::run();
+    by_year::run(rt, &cell)?;
+    writer::run(rt)
+}
+
+// The output is compared with a stored one: what cannot be written is missed there.
+fn main(rt: HostRuntime) {
+    let _ = run(&rt);
 }

@@ -1,7 +1,8 @@
 // The writer over heights: each item out of range in turn, then what else it refuses, and a cell that it writes.
-use crate::{OUTPUT, YEAR};
+use crate::{YEAR, print_verdict};
 use answers::{Outcome, Verdict};
 use description::{Accuracies, Accuracy, Datum, Description};
+use std::io;
 
 // A level 0 cell at 89 N, of 21 columns of 121 posts; one byte less; its posts; one post less; a post among them.
 const CELL: usize = 8762;
@@ -43,103 +44,109 @@ fn good() -> Description {
 }
 
 // What the writer answers, on a line.
-fn write(out: &mut [u8], d: Description, heights: &[i16]) {
+fn write(rt: &impl Print, out: &mut [u8], d: Description, heights: &[i16]) -> io::Result<()> {
     let outcome = cell_writer::write(YEAR, out, d, heights);
     match outcome {
-        Outcome::Done => {
-            io::write_all(OUTPUT, b"done\n");
-        }
-        Outcome::Refused(refusal) => {
-            printing::verdict(OUTPUT, Verdict::Refused(refusal));
-        }
+        Outcome::Done => println!(rt; "done"),
+        Outcome::Refused(refusal) => print_verdict(rt, Verdict::Refused(refusal)),
     }
 }
 
 // The same, into an output of one cell that is then dropped.
-fn attempt(d: Description, heights: &[i16]) {
+fn attempt(rt: &impl Print, d: Description, heights: &[i16]) -> io::Result<()> {
     let mut out = [0u8; CELL];
-    write(&mut out, d, heights);
+    write(rt, &mut out, d, heights)
 }
 
 // Items 1 to 6. Item 7 is an enum: no description has a datum out of range.
-fn try_items(heights: &[i16]) {
+fn try_items(rt: &impl Print, heights: &[i16]) -> io::Result<()> {
     let mut first = good();
     first.level = 3;
-    attempt(first, heights);
+    attempt(rt, first, heights)?;
     let mut second = good();
     second.latitude = 180;
-    attempt(second, heights);
+    attempt(rt, second, heights)?;
     let mut third = good();
     third.longitude = 360;
-    attempt(third, heights);
+    attempt(rt, third, heights)?;
     let mut fourth = good();
     fourth.security = b'K';
-    attempt(fourth, heights);
+    attempt(rt, fourth, heights)?;
     let mut fifth = good();
     fifth.edition = 100;
-    attempt(fifth, heights);
+    attempt(rt, fifth, heights)?;
     let mut sixth = good();
     sixth.version = b'a';
-    attempt(sixth, heights);
+    attempt(rt, sixth, heights)
 }
 
 // Items 8 to 12, each 10,000 metres.
-fn try_accuracies(heights: &[i16]) {
+fn try_accuracies(rt: &impl Print, heights: &[i16]) -> io::Result<()> {
     let uhl = Accuracy::Unknown;
     let absolute = metres(31, 432);
     let relative = metres(5433, 9999);
-    attempt(items(Accuracy::Metres(10000), absolute, relative), heights);
-    attempt(items(uhl, metres(10000, 432), relative), heights);
-    attempt(items(uhl, metres(31, 10000), relative), heights);
-    attempt(items(uhl, absolute, metres(10000, 9999)), heights);
-    attempt(items(uhl, absolute, metres(5433, 10000)), heights);
+    attempt(
+        rt,
+        items(Accuracy::Metres(10000), absolute, relative),
+        heights,
+    )?;
+    attempt(rt, items(uhl, metres(10000, 432), relative), heights)?;
+    attempt(rt, items(uhl, metres(31, 10000), relative), heights)?;
+    attempt(rt, items(uhl, absolute, metres(10000, 9999)), heights)?;
+    attempt(rt, items(uhl, absolute, metres(5433, 10000)), heights)
 }
 
 // Item 13, and two items at once, the two ends and two neighbours: the lower is named.
-fn try_last(heights: &[i16]) {
+fn try_last(rt: &impl Print, heights: &[i16]) -> io::Result<()> {
     let mut last = good();
     last.partial = 100;
-    attempt(last, heights);
+    attempt(rt, last, heights)?;
     let mut ends = last;
     ends.level = 3;
-    attempt(ends, heights);
+    attempt(rt, ends, heights)?;
     let uhl = Accuracy::Unknown;
-    attempt(items(uhl, metres(31, 10000), metres(10000, 9999)), heights);
+    attempt(
+        rt,
+        items(uhl, metres(31, 10000), metres(10000, 9999)),
+        heights,
+    )
 }
 
 // A grid of one post less.
-fn try_fewer(heights: &[i16]) {
+fn try_fewer(rt: &impl Print, heights: &[i16]) -> io::Result<()> {
     if FEWER <= heights.len() {
-        attempt(good(), &heights[..FEWER]);
+        attempt(rt, good(), &heights[..FEWER])?;
     }
+    Ok(())
 }
 
 // That, an output of one byte less, and one height too high.
-fn try_rest(heights: &mut [i16]) {
-    try_fewer(heights);
+fn try_rest(rt: &impl Print, heights: &mut [i16]) -> io::Result<()> {
+    try_fewer(rt, heights)?;
     let mut short = [0u8; SHORT];
-    write(&mut short, good(), heights);
+    write(rt, &mut short, good(), heights)?;
     if HIGH < heights.len() {
         heights[HIGH] = 9001;
-        attempt(good(), heights);
+        attempt(rt, good(), heights)?;
     }
+    Ok(())
 }
 
 // A cell that is written: the answer, what intake says of it, and the items that it has.
-fn try_good(heights: &[i16]) {
+fn try_good(rt: &impl Print, heights: &[i16]) -> io::Result<()> {
     let mut cell = [0u8; CELL];
-    write(&mut cell, good(), heights);
-    printing::verdict(OUTPUT, intake::intake(YEAR, &cell));
-    crate::said::print_items(&cell);
-    crate::said::print_accuracies(&cell);
+    write(rt, &mut cell, good(), heights)?;
+    print_verdict(rt, intake::intake(YEAR, &cell))?;
+    crate::said::print_items(rt, &cell)?;
+    crate::said::print_accuracies(rt, &cell)
 }
 
-pub fn run() {
+pub fn run(rt: &impl Print) -> io::Result<()> {
     let mut heights = [0i16; POSTS];
     crate::stream::put_heights(&mut heights, 0);
-    try_items(&heights);
-    try_accuracies(&heights);
-    try_last(&heights);
-    try_good(&heights);
-    try_rest(&mut heights);
+    try_items(rt, &heights)?;
+    try_accuracies(rt, &heights)?;
+    try_last(rt, &heights)?;
+    try_good(rt, &heights)?;
+    try_rest(rt, &mut heights)
 }

@@ -1,13 +1,9 @@
 -- `fill`: what was read so far stays within the piece.
-use Prim.Native.Nat.{◌-◌, ◌≤◌}
-use borrow.Author.Rules.{rules}
-use lib.ListN.{length}
-use mathlib.Core.Path.{◌≡◌, refl}
-use native.Mathlib.Omega.{arith}
+use Rattle.std.proofs.Common.{◌≡◌, ◌-◌, ◌≤◌, length}
 use Rattle.intake_program.proofs.fill.Given as goal
 
 abbrev pub invariant-loop-done : goal.invariant-loop-done
-invariant-loop-done l = (l.done ≤ l.wanted) × (length l.buffer ≡ length l.initial.buffer)
+invariant-loop-done g l = (l.done ≤ l.wanted) × (length l.buffer ≡ length l.initial.buffer)
 
 abbrev pub decreases-loop-done : goal.decreases-loop-done
-decreases-loop-done l = l.wanted - l.done
+decreases-loop-done g l = l.wanted - l.done

@@ -1,9 +1,7 @@
 -- `width`: the digits counted so far and those of what is left are one more than all of them.
 use Prim.Native.Nat.{◌+◌, ◌≤◌}
-use Rattle.printing.proofs.Widths.{width_few, width_on, width_some, width_64}
 use Rattle.printing.specs.Line.{width_of}
 use mathlib.Core.Path.{◌≡◌}
-use native.Mathlib.Omega.{arith}
 use Rattle.printing.proofs.lines.width.Given as goal
 
 abbrev pub invariant-loop-rest : goal.invariant-loop-rest

@@ -1,9 +1,5 @@
 -- `put_heights`: each is below 9,001, and there are as many as before.
-use Prim.Native.Nat.{◌-◌, ◌<◌, ◌≤◌}
-use borrow.Author.Rules.{rules}
-use lib.ListN.{length, length-set}
-use mathlib.Core.Path.{◌≡◌, refl}
-use native.Mathlib.Omega.{arith}
+use Rattle.std.proofs.Common.{◌≡◌, ◌-◌, ◌<◌, ◌≤◌, length}
 use Rattle.vectors.proofs.stream.put_heights.Given as goal
 
 abbrev pub invariant-loop-i : goal.invariant-loop-i

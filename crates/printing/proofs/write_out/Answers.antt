@@ -1,0 +1,19 @@
+-- `write_out`: what a write took stands behind what was written before.
+use Rattle.std.proofs.Common.{◌-◌, ◌++◌, length, take, drop, sym, ap, subst, ◌∙◌, arith, length-take}
+use lib.Seq.{take-add, take-take}
+use Rattle.std.specs.Io.KnownBytes.{Appends}
+use Rattle.std.proofs.KnownBytes.{Appends-trans}
+use Rattle.printing.proofs.write_out.Goals as goal
+
+pub loop-done-preserved : goal.loop-done-preserved
+loop-done-preserved g c =
+    let done = c.loop-done.done in
+    let n = c.in_ok-more.more in
+    let xs = c.args.bytes.now in
+    let fits = c.in_ok-more.ensures.bound in
+    let most = length-take (length xs - done) (drop done xs) in
+    let joined = ap (λ l. take done xs ++ l) (take-take n (length xs - done) (drop done xs) (omega arith)) ∙ sym (take-add done n xs) in
+    record {
+      within = omega arith;
+      front = subst (Appends _ _) joined (Appends-trans _ _ _ _ _ c.loop-done.invariant.front c.in_ok-more.ensures.bytes);
+    }
