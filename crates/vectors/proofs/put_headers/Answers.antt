@@ -1,8 +1,7 @@
 -- `put_headers`: where no item is out of range, all are in range.
-use Rattle.std.proofs.Common.{◌≡◌, true, sym, ap, ◌∙◌, arith}
+use Rattle.std.proofs.Common.{sym, ap, ◌∙◌, arith}
 use Rattle.description.proofs.RangedItems.{item_exactly}
 use Rattle.description.specs.Facts.{facts_for}
-use Rattle.description.specs.Items.{in_range}
 use Rattle.headers.specs.declared.Facts.{Facts}
 use Rattle.vectors.proofs.put_headers.Goals as goal
 
