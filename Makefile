@@ -24,23 +24,23 @@ check:
 	@tools/check
 
 fmt:
-	@rt fmt
+	@for crate in crates/*/; do (cd "$$crate" && rt fmt) || exit; done
 
 # ---- what the kit proves and compiles ----
 
 # all that each is proved from, folders too, so that an edited, a new and a removed file are seen
 INTAKE_SOURCES := $(shell tools/sources intake_program)
-LIBRARY_SOURCES := $(shell tools/sources dted)
+LIBRARY_SOURCES := $(shell tools/sources dted_c)
 PLAIN := target/staticlib/libdted.a
 PROGRAM := target/bin/intake_program
+# both for every x86-64 processor; the kit's own choice is a later one
+EVERY := --cpu x86-64
 
 $(PLAIN): $(LIBRARY_SOURCES)
-	@tools/prove staticlib dted
+	@tools/prove $@ dted_c $(EVERY)
 
-# rt leaves a program as it is where its sources say the same as before
 $(PROGRAM): $(INTAKE_SOURCES)
-	@tools/prove check intake_program
-	@touch $@
+	@tools/prove $@ intake_program $(EVERY)
 
 # any other cell: make run CELL=path
 CELL ?= cells/north_89.dt0
@@ -87,15 +87,16 @@ SHARED := target/shared/libdted.so.$(VERSION)
 
 shared: $(SHARED)
 
-# no name but the calls is seen from outside, and none but the C library's is looked for there
+# no name but the calls is seen from outside, and none but the C library's is looked for there; it has its three names here by no
+# links to names, which rt ci has nowhere in a checkout
 $(SHARED): $(LINKED)
 	@mkdir -p $(@D)
 	@rm -f target/shared/libdted.so*
 	@echo '{ global: dted_*; local: *; };' >target/shared/names
 	$(CC) $(LDFLAGS) -shared -nostartfiles -Wl,-soname,libdted.so.$(SOVERSION) -Wl,--version-script,target/shared/names -Wl,-z,defs \
 		-Wl,--whole-archive $(LINKED) -Wl,--no-whole-archive -o $@
-	@ln -s libdted.so.$(VERSION) target/shared/libdted.so.$(SOVERSION)
-	@ln -s libdted.so.$(SOVERSION) target/shared/libdted.so
+	@ln $@ target/shared/libdted.so.$(SOVERSION)
+	@ln $@ target/shared/libdted.so
 
 tool: target/tool/dted
 
@@ -153,7 +154,8 @@ install: shared tool $(OWN_INTAKE)
 	$(if $(TAKEN_INTAKE),install -m 755 $(TAKEN_INTAKE) $(DESTDIR)$(BINDIR)/dted-intake,@echo $(LEFT_OUT))
 	install -m 644 $(LINKED) $(DESTDIR)$(LIBDIR)
 	install -m 644 $(SHARED) $(DESTDIR)$(LIBDIR)
-	cp -P target/shared/libdted.so target/shared/libdted.so.$(SOVERSION) $(DESTDIR)$(LIBDIR)
+	ln -sf libdted.so.$(VERSION) $(DESTDIR)$(LIBDIR)/libdted.so.$(SOVERSION)
+	ln -sf libdted.so.$(SOVERSION) $(DESTDIR)$(LIBDIR)/libdted.so
 	install -m 644 $(HEADERS) $(DESTDIR)$(INCLUDEDIR)
 	$(FILL) -e 's|@NAME@|dted|' -e 's|@LIBRARY@|:libdted.a|' dted.pc.in | $(PUT) $(DESTDIR)$(PKGDIR)/dted.pc
 	$(FILL) -e 's|@NAME@|dted-shared|' -e 's|@LIBRARY@|dted|' dted.pc.in | $(PUT) $(DESTDIR)$(PKGDIR)/dted-shared.pc
@@ -171,12 +173,13 @@ uninstall:
 # the sources, and what is installed from without the kit; DIST=folder takes them elsewhere
 DIST ?= dist
 
-# what was made with other words of the caller is made anew
+# what was made with other words of the caller is made anew; the folder that is packed is no part of the checkout, in which rt ci has
+# each source once, and no links
 dist:
 	@git ls-files --error-unmatch VERSION >/dev/null || { echo 'dist: it needs the repository: it packs what git tracks' >&2; exit 1; }
-	@rm -rf target/dist target/shared target/tool
-	@$(MAKE) -s install DESTDIR=target/dist/ PREFIX=@PREFIX@
-	@tools/dist target/dist $(firstword $(subst -, ,$(shell $(CC) -dumpmachine)))$(CPU:%=-%) $(DIST)
+	@rm -rf target/shared target/tool
+	@stage=$$(mktemp -d) && trap 'rm -rf "$$stage"' EXIT && $(MAKE) -s install DESTDIR="$$stage/" PREFIX=@PREFIX@ && \
+		tools/dist "$$stage" $(firstword $(subst -, ,$(shell $(CC) -dumpmachine)))$(CPU:%=-%) $(DIST)
 
 # ---- tests of the C library ----
 

@@ -19,5 +19,7 @@ same 'the shared library has the calls of the header, and no other name' "$calls
 same 'the shared library needs memset alone' memset "$(names "$shared" -D -u)"
 same 'its name in the README' "$shared" "$(grep -oE 'target/shared/libdted\.so[0-9.]*' README.md)"
 same 'its soname' "libdted.so.$soversion" "$(readelf -dW "$shared" | sed -n 's/.*(SONAME).*\[\(.*\)\]/\1/p')"
-same 'its links' "libdted.so.$soversion libdted.so.$version" \
-    "$(readlink target/shared/libdted.so) $(readlink "target/shared/libdted.so.$soversion")"
+# no links to names: rt ci has none in a checkout
+for name in libdted.so "libdted.so.$soversion"; do
+    good "$name is the same file" [ "target/shared/$name" -ef "$shared" ]
+done

@@ -1,9 +1,9 @@
 # Which run `make figures` keeps, and what `make bench` changes, with a stand-in for the bench. A part of tests/package.
 # shellcheck shell=bash disable=SC2016,SC2154
-kit=$work/kit/on/$(uname -m)/toolchain/bin
+kit=$work/kit/toolchain/bin
 mkdir -p "$kit" "$tree/target/bench"
 printf '#!/bin/sh\necho clang version 1.2.3\n' >"$kit/clang"
-printf '#!/bin/sh\n[ "$1" = doc ] && echo "%s" || echo rattle-kit-0\n' "$work/kit/docs/START-HERE.md" >"$work/bin/rt"
+printf '#!/bin/sh\n[ "$1" = doc ] && echo "%s" || echo rattle-kit-0\n' "$work/kit/START-HERE.md" >"$work/bin/rt"
 cp "$tree/bench/last.txt" "$work/last.txt"
 # a run with the next of the ratios, and the run's number for its time
 cat >"$tree/target/bench/bench" <<END

@@ -77,6 +77,8 @@ same 'the functions that dted.3 declares' "$functions" \
 # ---- with one prefix ----
 good 'install' bash -c 'umask 077 && make install DESTDIR="$1" PREFIX="$2"' - "$stage" "$prefix"
 same 'what not all may read' '' "$(odd_modes "$there")"
+same 'the links to the shared library' "libdted.so.$soversion libdted.so.$version" \
+    "$(readlink "$there/lib/libdted.so") $(readlink "$there/lib/libdted.so.$soversion")"
 good 'install once more' make install DESTDIR="$stage" PREFIX="$prefix"
 same 'installed files' "$due" "$(cd "$there" && find . ! -type d -printf '%P\n' | sort)"
 same 'files that name the stage' '' "$(grep -rlF "$stage" "$stage")"

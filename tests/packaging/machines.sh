@@ -23,9 +23,9 @@ if [ "$archive" = "$own" ]; then
     good 'the plain code has not' [ -z "$("$objdump" -d "$archive" | grep '%ymm')" ]
     # a processor that no other suite asks for at the same time
     lib_for haswell CPU=haswell
-    times=$(stat -c %y "$made" target/native/module.ll)
+    times=$(stat -c %y "$made" "$archive")
     lib_for haswell CPU=haswell
-    same 'what is made once more' "$times" "$(stat -c %y "$made" target/native/module.ll)"
+    same 'what is made once more' "$times" "$(stat -c %y "$made" "$archive")"
     lib_for aarch64 MACHINE=aarch64
     same 'its machine' AArch64 "$(machine_of "$made")"
     same 'what the compiler says of it' '' "$(tools/native "$work/aarch64.a" aarch64 2>&1)"

@@ -2,21 +2,24 @@
 # shellcheck shell=bash disable=SC2016,SC2154
 tree=$work/empty/dted-$version
 
-# A stand-in that notes what it is asked, prints as rt does, and makes the archive or the program. With PROVED=yes it makes nothing,
-# as rt leaves a program that it has proved before; with FAILING=yes it fails after that.
+# A stand-in that notes what it is asked and in which crate's folder, prints as rt does, and makes the archive or the program. With
+# PROVED=yes it makes nothing, as where what it made before is there; with FAILING=yes it fails after that.
 mkdir -p "$work/bin"
 cat >"$work/bin/rt" <<END
 #!/bin/sh
-echo "\$*" >>"$work/asked"
+crate=\${PWD##*/}
+echo "\$crate \$*" >>"$work/asked"
+echo 'rt: chose --jobs 1 for octets'
 echo 'fn octets::sums::sum: proved'
-echo 'rt: octets proved (1 s)'
-mkdir -p target/staticlib target/bin
-case \$1\${PROVED:-} in
-staticlib) cp "$work/given.a" target/staticlib/libdted.a ;;
-check) cp "$work/second/bin/dted-intake" target/bin/intake_program ;;
+mkdir -p out
+case \$crate\${PROVED:-} in
+dted_c) cp "$work/given.a" out/libdted_c.a ;;
+intake_program) cp "$work/second/bin/dted-intake" out/intake_program ;;
 esac
 [ -z "\${FAILING:-}" ] && exit
-echo '/crates/octets/src/sums.rt:7:19: error: a slip'
+echo './proofs/sum/Answers.antt:7:19: error: a slip'
+echo 'src/sums.rt:8:1: error[unexpected-token]: another slip'
+echo 'note: src/sums.rt:9:5: it is not proved that the sum fits'
 exit 3
 END
 chmod +x "$work/bin/rt"
@@ -40,40 +43,42 @@ asks() { # WHAT ASKED COMMAND..
 }
 
 rm -rf "$tree/target"
-asks 'lib' 'staticlib dted' make lib
+asks 'lib' 'dted_c lib --cpu x86-64' make lib
 asks 'lib once more' '' make lib
 edit crates/octets/src/lib.rt
-asks 'lib after an edit in a crate that it stands on' 'staticlib dted' make lib
+asks 'lib after an edit in a crate that it stands on' 'dted_c lib --cpu x86-64' make lib
 edit crates/printing/src/lib.rt crates/octets/must-fail/*.edit
 asks 'lib after an edit in another crate, and in edits that must fail' '' make lib
 edit crates/dted/proofs/New.antt
-asks 'lib with a file more' 'staticlib dted' make lib
+asks 'lib with a file more' 'dted_c lib --cpu x86-64' make lib
 rm "$tree/crates/dted/proofs/New.antt" && edit crates/dted/proofs
-asks 'lib with a file less' 'staticlib dted' make lib
+asks 'lib with a file less' 'dted_c lib --cpu x86-64' make lib
 edit crates.txt
-asks 'lib after an edit of crates.txt' 'staticlib dted' make lib
+asks 'lib after an edit of crates.txt' 'dted_c lib --cpu x86-64' make lib
 
 # the answer alone is on standard output, and a line a crate on the other
 same 'run, its line' "$(cat cells/north_89.line)" "$(in_tree make -s run 2>"$work/shown")"
-same 'run, what else is shown' 'rt: octets proved (1 s)' "$(cat "$work/shown")"
-same 'run, what is kept' 2 "$(wc -l <"$tree/target/log/rt-check-intake_program.log")"
+same 'run, what else is shown' 'rt: chose --jobs 1 for octets' "$(cat "$work/shown")"
+same 'run, what is kept' 2 "$(wc -l <"$tree/target/log/rt-run-intake_program.log")"
 asks 'run once more' '' make -s run
 edit crates/printing/src/lib.rt
-asks 'run after an edit' 'check intake_program' make -s run
+asks 'run after an edit' 'intake_program run --cpu x86-64' make -s run
 edit crates/printing/src/lib.rt
-asks 'run after an edit that changes nothing' 'check intake_program' env PROVED=yes make -s run
+asks 'run after an edit that changes nothing' 'intake_program run --cpu x86-64' env PROVED=yes make -s run
 asks 'run after that' '' make -s run
 edit crates/octets/src/lib.rt
-asks 'install after an edit' 'staticlib dted,check intake_program' make install DESTDIR="$stage" PREFIX="$prefix"
+asks 'install after an edit' 'dted_c lib --cpu x86-64,intake_program run --cpu x86-64' make install DESTDIR="$stage" PREFIX="$prefix"
 
 # ---- a proof that fails ----
 edit crates/octets/src/lib.rt
-bad 'run after a slip' 'sums.rt:7:19: error: a slip' in_tree env FAILING=yes make -s run
-same 'run after a slip, where all of it is' 1 "$(grep -cF 'is in target/log/rt-check-intake_program.log' "$work/said")"
-asks 'run after the slip is put right' 'check intake_program' make -s run
+bad 'run after a slip' 'proofs/sum/Answers.antt:7:19: error: a slip' in_tree env FAILING=yes make -s run
+same 'run after a slip, a slip that no proof shows' 1 "$(grep -cF 'src/sums.rt:8:1: error[unexpected-token]: another slip' "$work/said")"
+same 'run after a slip, what is not proved' 1 "$(grep -cF 'note: src/sums.rt:9:5: it is not proved' "$work/said")"
+same 'run after a slip, where all of it is' 1 "$(grep -cF 'is in target/log/rt-run-intake_program.log' "$work/said")"
+asks 'run after the slip is put right' 'intake_program run --cpu x86-64' make -s run
 edit crates/octets/src/lib.rt
-bad 'install after a slip' 'rt staticlib dted ended in 3' in_tree env FAILING=yes make install DESTDIR="$stage" PREFIX="$prefix"
-same 'the status of rt' 3 "$(in_tree env FAILING=yes tools/prove check intake_program 2>/dev/null || echo $?)"
+bad 'install after a slip' 'rt lib in crates/dted_c ended in 3' in_tree env FAILING=yes make install DESTDIR="$stage" PREFIX="$prefix"
+same 'the status of rt' 3 "$(in_tree env FAILING=yes tools/prove target/bin/other intake_program 2>/dev/null || echo $?)"
 
 # ---- other archives, by their bytes ----
 # When a program was last linked.
