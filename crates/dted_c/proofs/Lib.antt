@@ -1,0 +1,2 @@
+-- What is exported, against what is proved of it.
+pub mod SameClaims
