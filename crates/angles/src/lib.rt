@@ -30,12 +30,7 @@ pub const EASTWARD: Axis = Axis {
 pub fn degrees(axis: Axis, angle: usize) -> usize
     ensures { result ≡ degrees_of axis angle }
 {
-    let most = axis.most;
-    if most <= angle {
-        angle - most
-    } else {
-        most - angle
-    }
+    angle.abs_diff(axis.most)
 }
 
 pub fn letter(axis: Axis, angle: usize) -> u8
@@ -48,7 +43,8 @@ pub fn letter(axis: Axis, angle: usize) -> u8
     }
 }
 
-// The angle of so many degrees to the side of a letter; its start where the axis has fewer.
+// The angle of so many degrees to the side of a letter; its start where the axis has fewer. Kept: no Option, as `angle_of`
+// has it of any degrees, which headers are judged by.
 pub fn angle(axis: Axis, degrees: usize, letter: u8) -> usize
     requires { FewDegrees axis degrees }
     ensures { result ≡ angle_of axis degrees letter }
@@ -57,10 +53,10 @@ pub fn angle(axis: Axis, degrees: usize, letter: u8) -> usize
     if letter == axis.plus {
         return most + degrees;
     }
-    if degrees <= most { most - degrees } else { 0 }
+    most.saturating_sub(degrees)
 }
 
-// Whether degrees and letter are those of an origin.
+// Whether degrees and letter are those of an origin. Kept: two arguments, as definitions have them, which take both from a field.
 pub fn is_origin(axis: Axis, degrees: usize, letter: u8) -> bool
     ensures { result ≡ is_origin axis degrees letter }
 {
@@ -97,6 +93,7 @@ pub fn may_carry(axis: Axis, angle: usize, letter: u8) -> bool
 }
 
 // Degrees in so many digits, zeros for what is below a degree, and the letter, over the whole field.
+#[tactic(auto, using(octets::proofs::PutLaws::put_three, octets::proofs::DigitLaws::length_digits), unfolding(crate::specs::Angles::angle_text))]
 pub fn put_angle(field: &mut [u8], digits: usize, zeros: &[u8], axis: Axis, angle: usize)
     requires { length field.old ≡ suc (digits + length zeros.now) }
     ensures { field.new ≡ angle_text (form digits zeros.now) axis angle }

@@ -1,15 +1,12 @@
 -- The numbers given back (rules N1, N3 to N12, N17, N21 to N23), and what each answer tells: every promise of an entry point speaks through `told`.
-use Rattle.std.specs.Prelude.{ℕ, List, [], ◌∷◌, ℤ, pos, nat_abs, get_or}
+use Rattle.std.specs.Prelude.{ℕ, List, [], ◌∷◌, ℤ, pos, nat_abs, get_or, Result, Ok, Err, ⊤}
+use Rattle.answers.specs.declared.Located.{Located}
+use Rattle.posts.specs.declared.Post.TheVariants as reads
+use Rattle.posts.specs.declared.Post.{Post}
+use Rattle.answers.specs.declared.Verdict.{Verdict}
 use Rattle.answers.specs.declared.Refusal.{Refusal}
 use Rattle.answers.specs.declared.Refusal.TheVariants as because
-use Rattle.answers.specs.declared.Verdict.{Verdict}
 use Rattle.answers.specs.declared.Verdict.TheVariants as verdict
-use Rattle.answers.specs.declared.Reading.{Reading}
-use Rattle.answers.specs.declared.Reading.TheVariants as reading
-use Rattle.answers.specs.declared.Located.{Located}
-use Rattle.answers.specs.declared.Located.TheVariants as located
-use Rattle.answers.specs.declared.Outcome.{Outcome}
-use Rattle.answers.specs.declared.Outcome.TheVariants as outcome
 
 -- what a call says: a refusal, by a number of the table and its place; or else a tag, and values
 pub data Told : Type 0 where
@@ -39,6 +36,10 @@ height_at column post z = said 4 (pos column ∷ pos post ∷ z ∷ [])
 
 abbrev pub void_at : ℕ → ℕ → Told
 void_at column post = said 5 (pos column ∷ pos post ∷ [])
+
+abbrev pub post_at : ℕ → ℕ → Post → Told
+post_at column post (reads.Height z) = height_at column post z
+post_at column post reads.Void = void_at column post
 
 abbrev pub done : Told
 done = said 6 []
@@ -85,21 +86,20 @@ pub data Kind : Type 0 where
   act : Kind
 
 abbrev pub Answer : Kind → Type 0
-Answer intake = Verdict
-Answer post = Reading
-Answer position = Located
-Answer act = Outcome
+Answer intake = Result Verdict Refusal
+Answer post = Result Post Refusal
+Answer position = Result Located Refusal
+Answer act = Result ⊤ Refusal
 
 -- what an answer tells
 abbrev pub told : (k : Kind) → Answer k → Told
-told intake verdict.More = more
-told intake (verdict.Accepted level columns posts) = accepted level columns posts
-told intake (verdict.Refused r) = numbered r
-told post (reading.Height z) = height z
-told post reading.Void = void
-told post (reading.Refused r) = numbered r
-told position (located.Height column number z) = height_at column number z
-told position (located.Void column number) = void_at column number
-told position (located.Refused r) = numbered r
-told act outcome.Done = done
-told act (outcome.Refused r) = numbered r
+told intake (Ok verdict.More) = more
+told intake (Ok (verdict.Accepted level columns posts)) = accepted level columns posts
+told intake (Err r) = numbered r
+told post (Ok (reads.Height z)) = height z
+told post (Ok reads.Void) = void
+told post (Err r) = numbered r
+told position (Ok found) = post_at found.column found.post found.reads
+told position (Err r) = numbered r
+told act (Ok _) = done
+told act (Err r) = numbered r

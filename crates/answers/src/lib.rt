@@ -1,8 +1,10 @@
-// What the library's calls answer: refusals with their places, and the answers that carry one.
+// What the library's calls answer: refusals with their places, and what they find where they refuse nothing.
 #![tactic(auto)]
 
 ghost use Rattle.std.specs.Prelude.{◌≡◌};
 ghost use Rattle.answers.specs.Told.{numbered, refused};
+
+use posts::Post;
 
 // Why a call was refused, with its place: an offset in the file, a length, an item or an index.
 #[derive(Clone, Copy)]
@@ -39,7 +41,7 @@ pub enum Refusal {
     FieldOffTable(usize),
 }
 
-// What intake answers, whole or step by step.
+// What intake finds, whole or step by step, where it refuses nothing.
 #[derive(Clone, Copy)]
 pub enum Verdict {
     // good so far, the next piece is due
@@ -49,40 +51,17 @@ pub enum Verdict {
         columns: usize,
         posts: usize,
     },
-    Refused(Refusal),
 }
 
-// What a lookup of one post answers.
+// What a lookup of a position finds: the nearest post, and what it reads as.
 #[derive(Clone, Copy)]
-pub enum Reading {
-    Height(i16),
-    Void,
-    Refused(Refusal),
+pub struct Located {
+    pub column: usize,
+    pub post: usize,
+    pub reads: Post,
 }
 
-// What a lookup of a position answers: the nearest post, and what it reads as.
-#[derive(Clone, Copy)]
-pub enum Located {
-    Height {
-        column: usize,
-        post: usize,
-        metres: i16,
-    },
-    Void {
-        column: usize,
-        post: usize,
-    },
-    Refused(Refusal),
-}
-
-// What an edit or a writer answers.
-#[derive(Clone, Copy)]
-pub enum Outcome {
-    Done,
-    Refused(Refusal),
-}
-
-// A refusal's number and its place, as a host or a printed line has them.
+// A refusal's number and its place. Kept: numbers, since a C host and a printed line have them so.
 #[derive(Clone, Copy)]
 pub struct Numbered(pub usize, pub usize);
 

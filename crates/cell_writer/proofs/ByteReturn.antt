@@ -1,4 +1,6 @@
 -- Under the headers of an accepted cell, the column writer makes the cell's own bytes from the posts of a column with plain words (rule X2).
+use Rattle.std.specs.Prelude.{Result, Ok, ⊤}
+use Rattle.answers.specs.declared.Refusal.{Refusal}
 use Prim.Native.Nat.{ℕ, ◌<◌, ◌≤◌}
 use native.Mathlib.Omega.{arith}
 use mathlib.Core.Path.{◌≡◌, refl, sym, ap, ◌∙◌}
@@ -7,8 +9,6 @@ use mathlib.Core.List.{List, ◌++◌}
 use lib.IntN.{pos}
 use lib.ListN.{length, get_or, drop}
 use Rattle.octets.specs.Numbers.{Bytes}
-use Rattle.answers.specs.declared.Outcome.{Outcome}
-use Rattle.answers.specs.declared.Outcome.TheVariants.{Done}
 use Rattle.years.specs.declared.Year.{Year}
 use Rattle.layout.specs.Levels.{posts_of, column_bytes}
 use Rattle.layout.specs.Grid.{grid_of}
@@ -61,14 +61,14 @@ module _ {year : Year} (s : List ℕ) (cell : Cell year s) (k : ℕ) (h : k < (f
       (said_held (frame_in year s).voids ws (good_allowed c k g.posts (frame_in year s).voids (cell.framed.columns k h)) i u)
 
   module _ (out : List ℕ) (room : (facts_in s).grid.bytes.column ≤ length out) where
-    pub return_done : judged_column_write (facts_in s).grid.level k (numbers (heights_in (column_at s (facts_in s).grid k) (facts_in s).grid.posts)) (length out) ≡ Done
+    pub return_done : judged_column_write (facts_in s).grid.level k (numbers (heights_in (column_at s (facts_in s).grid k) (facts_in s).grid.posts)) (length out) ≡ Ok tt
     return_done =
         let g = (facts_in s).grid in
         let zs = heights_in (column_at s g k) g.posts in
         let l = cell_of_level s cell in
         let n = length_heights (column_at s g k) g.posts in
-        given g.level k (numbers zs) (length out) Done
-        (then_rest Done l.level (omega (arith, l.columns))
+        given g.level k (numbers zs) (length out) (Ok tt)
+        (then_rest (Ok tt) l.level (omega (arith, l.columns))
         (fine (n ∙ sym l.posts) (λ i u. column_held i (omega (arith, l.posts))) (omega (arith, l.bytes))))
 
     pub byte_return : Bytes s → Plain (words_in (column_at s (facts_in s).grid k) (facts_in s).grid.posts)
@@ -79,6 +79,6 @@ module _ {year : Year} (s : List ℕ) (cell : Cell year s) (k : ℕ) (h : k < (f
         let g = (facts_in s).grid in
         let zs = heights_in (column_at s g k) g.posts in
         let long : length (column_at s g k) ≡ g.bytes.column = (cell.framed.columns k h).long ∙ sym (cell_facts s cell).grid.column in
-        ap (λ (o : Outcome). output_after o (column_of k zs) out) return_done
+        ap (λ (o : Result ⊤ Refusal). output_after o (column_of k zs) out) return_done
         ∙ ap (λ (c : List ℕ). c ++ drop (length c) out) (column_afresh s cell bytes k h plain)
         ∙ ap (λ (n : ℕ). column_at s g k ++ drop n out) long

@@ -1,4 +1,5 @@
 -- Write then read restores everything (rule D2): the cell is accepted, and gives back its description, its grid and each post.
+use Rattle.std.specs.Prelude.{Ok}
 use Prim.Native.Nat.{ℕ, ◌+◌, ◌*◌, ◌<◌}
 use native.Mathlib.Omega.{arith}
 use mathlib.Core.Path.{◌≡◌, sym, ap, subst, ◌∙◌}
@@ -17,7 +18,6 @@ use Rattle.headers.specs.Judged.{frame_in}
 use Rattle.description.specs.Items.{in_range}
 use Rattle.description.specs.Described.{described}
 use Rattle.description.specs.declared.Description.{Description}
-use Rattle.description.specs.declared.Described.TheVariants.{As}
 use Rattle.description.specs.Facts.{facts_for}
 use Rattle.header_writer.specs.Written.{headers_for}
 use Rattle.header_writer.proofs.WrittenGood.{written_described}
@@ -35,7 +35,7 @@ use Rattle.lookup.proofs.LookupLaws.{said_there}
 use Rattle.cell_writer.specs.Cell.{posts_due, frame_for, cell_of}
 use Rattle.cell_writer.proofs.WrittenCell.{written_headed, written_made}
 
-pub restored_description : (d : Description) → in_range d ≡ true → (zs : List ℤ) → described (cell_of d zs) ≡ As d
+pub restored_description : (d : Description) → in_range d ≡ true → (zs : List ℤ) → described (cell_of d zs) ≡ Ok d
 unfolding cell_of
 restored_description d e zs = written_described d (columns_written (facts_for d).grid.posts zs (facts_for d).grid.columns) e
 

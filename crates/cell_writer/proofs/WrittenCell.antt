@@ -1,4 +1,5 @@
 -- A cell that was written is made of the headers of its description and of the words of its heights.
+use Rattle.std.specs.Prelude.{Ok}
 use Prim.Native.Nat.{ℕ}
 use mathlib.Core.Path.{◌≡◌, refl, ap, ◌∙◌}
 use mathlib.Core.Bool.{true}
@@ -9,7 +10,6 @@ use Rattle.years.specs.declared.Year.{Year}
 use Rattle.posts.specs.Heights.{word_of}
 use Rattle.description.specs.Items.{in_range}
 use Rattle.headers.specs.Judged.{judged, facts_in}
-use Rattle.headers.specs.declared.JudgedHeaders.TheVariants.{Good}
 use Rattle.description.specs.Described.{items_in}
 use Rattle.description.specs.Facts.{basis_of, facts_for}
 use Rattle.header_writer.specs.Written.{headers_for}
@@ -30,8 +30,8 @@ facts_back d rest e =
     let items = headers.written_items d rest e in
     λ k. record { grid = (due k).grid; latitude = (due k).latitude; longitude = (due k).longitude; partial = (items k).partial }
 
-headers_say : (d : Description) → in_range d ≡ true → judged (headers_for d) ≡ Good (facts_for d)
-headers_say d e = rw (append-nil (headers_for d)) at (headers.written_good d [] e) ∙ ap Good (rw (append-nil (headers_for d)) at (facts_back d [] e))
+headers_say : (d : Description) → in_range d ≡ true → judged (headers_for d) ≡ Ok (facts_for d)
+headers_say d e = rw (append-nil (headers_for d)) at (headers.written_good d [] e) ∙ ap Ok (rw (append-nil (headers_for d)) at (facts_back d [] e))
 
 pub written_headed : (year : Year) (d : Description) → in_range d ≡ true → Headed year (frame_for year d) (headers_for d)
 written_headed year d e = record { facts = facts_for d; good = headers_say d e; frame = refl }

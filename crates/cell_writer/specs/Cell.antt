@@ -1,10 +1,8 @@
 -- The writer of a whole cell under a year (rules W1 and W4): 9 with the lowest item, then 10, 11 and 12.
-use Rattle.std.specs.Prelude.{ℕ, ◌*◌, List, ℤ, length, eqb}
-use Rattle.octets.specs.Choice.{pick}
+use Rattle.std.specs.Prelude.{ℕ, ◌*◌, List, ℤ, length, Option, Some, None, Result, Err, ⊤}
+use Rattle.answers.specs.declared.Refusal.{Refusal}
 use Rattle.answers.specs.Told.{Told, told, act}
 use Rattle.answers.specs.declared.Refusal.TheVariants.{Item}
-use Rattle.answers.specs.declared.Outcome.{Outcome}
-use Rattle.answers.specs.declared.Outcome.TheVariants.{Refused}
 use Rattle.years.specs.declared.Year.{Year}
 use Rattle.layout.specs.declared.Grid.{Grid}
 use Rattle.layout.specs.declared.Frame.{Frame}
@@ -21,20 +19,21 @@ use Rattle.cells.specs.Grid.{afresh}
 abbrev pub posts_due : Grid → ℕ
 posts_due g = g.columns * g.posts
 
--- W1, N9: 9 with the lowest item out of range, which is 0 where none is; else the rest
-unfoldable pub after_item : ℕ → Outcome → Outcome
-after_item bad rest = pick (eqb bad 0) rest (Refused (Item bad))
+-- W1, N9: 9 with the lowest item out of range; the rest where none is
+abbrev pub after_item : Option ℕ → Result ⊤ Refusal → Result ⊤ Refusal
+after_item None rest = rest
+after_item (Some item) rest = Err (Item item)
 
 -- the frame that headers written from a description give under a year
 abbrev pub frame_for : Year → Description → Frame
 frame_for year d = frame_of year (facts_for d)
 
 -- N10, N11, N12: under a frame, for an output of so many bytes
-unfoldable pub judged_under : Frame → Heights → ℕ → Outcome
+unfoldable pub judged_under : Frame → Heights → ℕ → Result ⊤ Refusal
 judged_under f g room = judged_posts (posts_due f.grid) f.grid.bytes.cell f.voids g room
 
 -- W1: the order of the call
-unfoldable pub judged_cell_write : Year → Description → Heights → ℕ → Outcome
+unfoldable pub judged_cell_write : Year → Description → Heights → ℕ → Result ⊤ Refusal
 judged_cell_write year d g room = after_item (bad_item d) (judged_under (frame_for year d) g room)
 
 -- the cell of a description and a grid

@@ -1,4 +1,5 @@
 -- Headers that give a frame, and words that it allows, are the same thing as an accepted cell.
+use Rattle.std.specs.Prelude.{Ok}
 use Prim.Native.Nat.{ℕ, ◌<◌, ◌≤◌}
 use native.Mathlib.Omega.{arith}
 use mathlib.Core.Path.{◌≡◌, sym, ap, ◌∙◌}
@@ -14,7 +15,6 @@ use Rattle.layout.specs.declared.Frame.{Frame}
 use Rattle.layout.specs.Ranges.{Ranged}
 use Rattle.headers.specs.Judged.{judged, facts_in, frame_of, frame_in, Follows}
 use Rattle.headers.specs.declared.Facts.{Facts}
-use Rattle.headers.specs.declared.JudgedHeaders.TheVariants.{Good}
 use Rattle.headers.proofs.Exactly.{good_follows, follows_good}
 use Rattle.headers.proofs.FirstFour.{GoodFacts, good_facts}
 use Rattle.headers.proofs.SameHeaders.{same_headers}
@@ -26,7 +26,7 @@ use Rattle.cells.proofs.FramedWords.{Made, made_framed, words_there, framed_made
 -- good headers, whose frame this is under a year
 pub record Headed (year : Year) (f : Frame) (h : List ℕ) : Type 0 where
   pub facts : Facts
-  pub good : judged h ≡ Good facts
+  pub good : judged h ≡ Ok facts
   pub frame : frame_of year facts ≡ f
 
 pub headed_range : {year : Year} (f : Frame) (h : List ℕ) → Headed year f h → Ranged f.grid

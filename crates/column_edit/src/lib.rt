@@ -9,6 +9,7 @@ use columns::places::{sum_at, word_at};
 use octets::numbers::{be32, put16, put32};
 use octets::sums::sum;
 
+// Kept: the count of posts beside the column, since `Storable` and `stored` count by it and the one caller has it.
 // Post `post` of a column whose checksum is right made this word: its two bytes and the checksum's four are written.
 pub fn store(column: &mut [u8], posts: usize, post: usize, word: u16)
     requires { Storable column.old posts post }

@@ -1,4 +1,6 @@
 -- Heights judged in parts: a part of which each height may be held is passed over, and how a part is judged, height by height.
+use Rattle.std.specs.Prelude.{Result, Ok, Err, ⊤}
+use Rattle.answers.specs.declared.Refusal.{Refusal}
 use Prim.Native.Nat.{ℕ, zero, suc, ◌+◌, ◌-◌, ◌<◌, ◌≤◌}
 use native.Mathlib.Omega.{arith}
 use mathlib.Core.Path.{◌≡◌, refl, sym, ap, ◌∙◌}
@@ -14,9 +16,8 @@ use Rattle.posts.specs.Spans.{counted_as, span_in_range}
 use Rattle.posts.proofs.SpanLaws.{span_more, counted_held}
 use Rattle.sources.specs.Heights.{Heights, nth_height}
 use Rattle.answers.specs.declared.Refusal.TheVariants.{Height}
-use Rattle.answers.specs.declared.Outcome.{Outcome}
-use Rattle.answers.specs.declared.Outcome.TheVariants.{Refused}
-use Rattle.column_writer.specs.Judged.{heights_allowed, heights_from_then}
+use Rattle.columns.specs.Judged.{and_then}
+use Rattle.column_writer.specs.Judged.{heights_allowed, heights_from_then, heights_then}
 
 pick_both : (a b : Bool) → pick a b false ≡ both a b
 pick_both true b = refl
@@ -30,9 +31,13 @@ both_last : (a : Bool) → both a true ≡ a
 both_last true = refl
 both_last false = refl
 
+pick_then : (b : Bool) (x : Result ⊤ Refusal) (r : Refusal) (rest : Result ⊤ Refusal) → pick b (and_then x rest) (Err r) ≡ and_then (pick b x (Err r)) rest
+pick_then true x r rest = refl
+pick_then false x r rest = refl
+
 -- the answer where a height may not be held
-abbrev pub refusal : ℕ → Outcome
-refusal i = Refused (Height i)
+abbrev pub refusal : ℕ → Result ⊤ Refusal
+refusal i = Err (Height i)
 
 module _ (voids : Bool) (g : Heights) where
   abbrev pub test : ℕ → Bool
@@ -65,7 +70,7 @@ module _ (voids : Bool) (g : Heights) where
   heights_judged from i n h b = rw (allowed_end from i n h) (both_last b)
 
   -- m heights that may be held are passed over
-  pub part_passed : (i m n : ℕ) (rest : Outcome) → i + m ≤ n → heights_allowed voids g i m ≡ true
+  pub part_passed : (i m n : ℕ) (rest : Result ⊤ Refusal) → i + m ≤ n → heights_allowed voids g i m ≡ true
       → heights_from_then voids g i (n - i) rest ≡ heights_from_then voids g (i + m) (n - (i + m)) rest
   unfolding heights_allowed first_bad
   part_passed i zero n rest h e = let same : i + 0 ≡ i = omega arith in rw same
@@ -77,5 +82,17 @@ module _ (voids : Bool) (g : Heights) where
       ∙ ap (λ (k : ℕ). heights_from_then voids g k (n - k) rest) on
 
   -- and where all that are left may be held, the rest is answered
-  pub all_passed : (i n : ℕ) (rest : Outcome) → i ≤ n → heights_allowed voids g i (n - i) ≡ true → heights_from_then voids g i (n - i) rest ≡ rest
+  pub all_passed : (i n : ℕ) (rest : Result ⊤ Refusal) → i ≤ n → heights_allowed voids g i (n - i) ≡ true → heights_from_then voids g i (n - i) rest ≡ rest
   all_passed i n rest h e = part_passed i (n - i) n rest (omega arith) e ∙ search_end test refusal rest (i + (n - i)) n (omega arith)
+
+  -- the rest comes after the heights alone
+  all_then : (i n : ℕ) (rest : Result ⊤ Refusal) → heights_from_then voids g i n rest ≡ and_then (heights_from_then voids g i n (Ok tt)) rest
+  unfolding first_bad
+  all_then i zero rest = refl
+  all_then i (suc n) rest =
+      ap (λ (x : Result ⊤ Refusal). pick (test i) x (refusal i)) (all_then (i + 1) n rest)
+      ∙ pick_then (test i) (heights_from_then voids g (i + 1) n (Ok tt)) (Height i) rest
+
+  pub then_rest : (n : ℕ) (rest : Result ⊤ Refusal) → heights_then voids g n rest ≡ and_then (heights_then voids g n (Ok tt)) rest
+  unfolding heights_then
+  then_rest n rest = all_then 0 n rest

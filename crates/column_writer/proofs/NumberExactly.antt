@@ -1,4 +1,6 @@
 -- X1, N8, N9, N14: 9 for the level, 8 for the number, else the rest: exactly the first row that holds is answered, where that is so of the rest.
+use Rattle.std.specs.Prelude.{Result, Ok, Err, ⊤}
+use Rattle.answers.specs.declared.Refusal.{Refusal}
 use Prim.Native.Nat.{ℕ, ◌<◌, ◌≤◌}
 use native.Mathlib.Omega.{arith}
 use mathlib.Core.Path.{◌≡◌, refl}
@@ -8,44 +10,40 @@ use borrow.Author.Tests.{lt-ltb, le-ltb, ltb-true}
 use Rattle.octets.specs.Choice.{pick}
 use Rattle.octets.proofs.ChoiceLaws.{by_order}
 use Rattle.answers.specs.declared.Refusal.TheVariants.{Item, OffGrid}
-use Rattle.answers.specs.declared.Outcome.{Outcome}
-use Rattle.answers.specs.declared.Outcome.TheVariants.{Done, Refused}
 use Rattle.layout.specs.Levels.{posts_of}
 use Rattle.layout.specs.Grid.{grid_of}
 use Rattle.layout.specs.declared.Grid.{Grid}
 use Rattle.layout.specs.Ranges.{Ranged}
 use Rattle.layout.proofs.Ranges.{ranged}
 use Rattle.column_writer.specs.Column.{zone_one_columns, placed, placed_then, after_number}
-use Rattle.column_writer.specs.declared.Placed.{Placed}
-use Rattle.column_writer.specs.declared.Placed.TheVariants as placing
 
-on_by : (a b : Bool) (due g : Grid) → pick a (pick b (placing.On due) (placing.Refused OffGrid)) (placing.Refused (Item 1)) ≡ placing.On g
+on_by : (a b : Bool) (due g : Grid) → pick a (pick b (Ok due) (Err OffGrid)) (Err (Item 1)) ≡ Ok g
     → (a ≡ true) × ((b ≡ true) × (g ≡ due))
 on_by true true due g on = (refl, (refl, cc))
 on_by true false due g on = (refl, (cc, cc))
 on_by false b due g on = (cc, (cc, cc))
 
 module _ (level number : ℕ) where
-  pub no_level : 3 ≤ level → placed level number ≡ placing.Refused (Item 1)
+  pub no_level : 3 ≤ level → placed level number ≡ Err (Item 1)
   unfolding placed
   no_level h = rw (le-ltb level 3 h)
 
-  pub off_grid : level < 3 → zone_one_columns level ≤ number → placed level number ≡ placing.Refused OffGrid
+  pub off_grid : level < 3 → zone_one_columns level ≤ number → placed level number ≡ Err OffGrid
   unfolding placed
   off_grid h u = rw (lt-ltb level 3 h, le-ltb number (zone_one_columns level) u)
 
-  pub on_grid : level < 3 → number < zone_one_columns level → placed level number ≡ placing.On (grid_of level 0)
+  pub on_grid : level < 3 → number < zone_one_columns level → placed level number ≡ Ok (grid_of level 0)
   unfolding placed
   on_grid h u = rw (lt-ltb level 3 h, lt-ltb number (zone_one_columns level) u)
 
   -- what is placed on a grid is a column of the level's
-  pub placed_on : (g : Grid) → placed level number ≡ placing.On g → (level < 3) × ((number < zone_one_columns level) × (g ≡ grid_of level 0))
+  pub placed_on : (g : Grid) → placed level number ≡ Ok g → (level < 3) × ((number < zone_one_columns level) × (g ≡ grid_of level 0))
   unfolding placed
   placed_on g on =
       let facts = on_by (ltb level 3) (ltb number (zone_one_columns level)) (grid_of level 0) g on in
       (ltb-true level 3 facts.0, (ltb-true number (zone_one_columns level) facts.1.0, facts.1.1))
 
-  pub placed_ranged : (g : Grid) → placed level number ≡ placing.On g → Ranged g
+  pub placed_ranged : (g : Grid) → placed level number ≡ Ok g → Ranged g
   placed_ranged g on = let o = placed_on g on in rw o.1.1 (ranged level 0 o.0 (omega arith))
 
   -- a column of a level has few posts and a small number
@@ -54,18 +52,18 @@ module _ (level number : ℕ) where
   number_small h u = let g = ranged level 0 h (omega arith) in (omega (arith, g.posts_high), omega (arith, g.columns_high))
 
 -- the rows in the call's order, each where it holds and none before it does
-pub data NumberRow (level number : ℕ) (Rest : Outcome → Type 0) : Outcome → Type 0 where
+pub data NumberRow (level number : ℕ) (Rest : Result ⊤ Refusal → Type 0) : Result ⊤ Refusal → Type 0 where
   -- 9
-  level_past : 3 ≤ level → NumberRow level number Rest (Refused (Item 1))
+  level_past : 3 ≤ level → NumberRow level number Rest (Err (Item 1))
   -- 8
-  number_past : level < 3 → zone_one_columns level ≤ number → NumberRow level number Rest (Refused OffGrid)
+  number_past : level < 3 → zone_one_columns level ≤ number → NumberRow level number Rest (Err OffGrid)
   -- a row of the rest
-  then_rest : (x : Outcome) → level < 3 → number < zone_one_columns level → Rest x → NumberRow level number Rest x
+  then_rest : (x : Result ⊤ Refusal) → level < 3 → number < zone_one_columns level → Rest x → NumberRow level number Rest x
 
-module _ (level number : ℕ) (rest : Outcome) where
-  module _ (Rest : Outcome → Type 0) where
+module _ (level number : ℕ) (rest : Result ⊤ Refusal) where
+  module _ (Rest : Result ⊤ Refusal → Type 0) where
     -- every row's answer is given
-    pub given : ((x : Outcome) → Rest x → rest ≡ x) → (x : Outcome) → NumberRow level number Rest x → after_number level number rest ≡ x
+    pub given : ((x : Result ⊤ Refusal) → Rest x → rest ≡ x) → (x : Result ⊤ Refusal) → NumberRow level number Rest x → after_number level number rest ≡ x
     unfolding after_number
     given f _ (level_past h) = rw (no_level level number h)
     given f _ (number_past h u) = rw (off_grid level number h u)
@@ -83,10 +81,10 @@ module _ (level number : ℕ) (rest : Outcome) where
         (λ u. rw (on_grid level number h u) (then_rest rest h u r)))
 
   -- what an accepted call was given
-  is_ready : (x : Placed) → placed level number ≡ x → placed_then x rest ≡ Done → (level < 3) × ((number < zone_one_columns level) × (rest ≡ Done))
-  is_ready (placing.On g) e done = let o = placed_on level number g e in (o.0, (o.1.0, done))
-  is_ready (placing.Refused r) e done = let z : ◌≡◌ {A = ℕ} 0 1 = cc in absurd (omega arith)
+  is_ready : (x : Result Grid Refusal) → placed level number ≡ x → placed_then x rest ≡ Ok tt → (level < 3) × ((number < zone_one_columns level) × (rest ≡ Ok tt))
+  is_ready (Ok g) e done = let o = placed_on level number g e in (o.0, (o.1.0, done))
+  is_ready (Err r) e done = cc
 
-  pub ready : after_number level number rest ≡ Done → (level < 3) × ((number < zone_one_columns level) × (rest ≡ Done))
+  pub ready : after_number level number rest ≡ Ok tt → (level < 3) × ((number < zone_one_columns level) × (rest ≡ Ok tt))
   unfolding after_number
   ready done = is_ready (placed level number) refl done

@@ -1,39 +1,37 @@
 -- The column writer (rule X1): 9 for the level, 8 for the number, then 10, 11 and 12. Voids are allowed.
-use Rattle.std.specs.Prelude.{ℕ, true, List, ℤ, length, ltb}
+use Rattle.std.specs.Prelude.{ℕ, true, List, ℤ, length, ltb, Result, Ok, Err, ⊤}
+use Rattle.layout.specs.declared.Grid.{Grid}
+use Rattle.answers.specs.declared.Refusal.{Refusal}
 use Rattle.octets.specs.Choice.{pick}
 use Rattle.answers.specs.Told.{Told, told, act}
 use Rattle.answers.specs.declared.Refusal.TheVariants.{Item, OffGrid}
-use Rattle.answers.specs.declared.Outcome.{Outcome}
-use Rattle.answers.specs.declared.Outcome.TheVariants.{Refused}
 use Rattle.layout.specs.Levels.{posts_of, column_bytes}
 use Rattle.layout.specs.Grid.{columns_of, grid_of}
 use Rattle.sources.specs.Heights.{Heights, numbers, heights_of}
 use Rattle.columns.specs.Column.{column_of}
 use Rattle.column_writer.specs.Judged.{judged_posts, output_after}
-use Rattle.column_writer.specs.declared.Placed.{Placed}
-use Rattle.column_writer.specs.declared.Placed.TheVariants as placing
 
 -- the columns of a level in zone I, whose near edges begin at 0
 abbrev pub zone_one_columns : ℕ → ℕ
 zone_one_columns level = columns_of level 0
 
 -- X1, N9, N8: the level's zone I grid, which has a column of this number; else 9 for the level, 8 for the number
-unfoldable pub placed : ℕ → ℕ → Placed
+unfoldable pub placed : ℕ → ℕ → Result Grid Refusal
 placed level number =
     pick (ltb level 3)
-    (pick (ltb number (zone_one_columns level)) (placing.On (grid_of level 0)) (placing.Refused OffGrid))
-    (placing.Refused (Item 1))
+    (pick (ltb number (zone_one_columns level)) (Ok (grid_of level 0)) (Err OffGrid))
+    (Err (Item 1))
 
 -- that refusal, else the rest
-abbrev pub placed_then : Placed → Outcome → Outcome
-placed_then (placing.On g) rest = rest
-placed_then (placing.Refused r) rest = Refused r
+abbrev pub placed_then : Result Grid Refusal → Result ⊤ Refusal → Result ⊤ Refusal
+placed_then (Ok g) rest = rest
+placed_then (Err r) rest = Err r
 
-unfoldable pub after_number : ℕ → ℕ → Outcome → Outcome
+unfoldable pub after_number : ℕ → ℕ → Result ⊤ Refusal → Result ⊤ Refusal
 after_number level number rest = placed_then (placed level number) rest
 
 -- X1: the order of the call, for an output of so many bytes
-unfoldable pub judged_column_write : ℕ → ℕ → Heights → ℕ → Outcome
+unfoldable pub judged_column_write : ℕ → ℕ → Heights → ℕ → Result ⊤ Refusal
 judged_column_write level number g room = after_number level number (judged_posts (posts_of level) (column_bytes (posts_of level)) true g room)
 
 -- what is told of the call, and the output at its end: from any source

@@ -1,115 +1,87 @@
 // What every writer judges of what it is given, from whatever source, and of the output.
-ghost use Rattle.std.specs.Prelude.{◌≡◌, ◌-◌};
-ghost use Rattle.sources.specs.Heights.{heights_from, count_of};
+ghost use Rattle.std.specs.Prelude.{◌≡◌, ◌-◌, Ok};
+ghost use Rattle.sources.specs.Heights.{count_of};
 ghost use Rattle.columns.specs.Asked.{Reaches};
 ghost use Rattle.column_writer.specs.Judged.{heights_allowed, heights_from_then, heights_then, room_for, judged_posts};
 
-use answers::{Outcome, Refusal};
+use answers::Refusal;
 use octets::extremes::{larger, smaller};
 use posts::heights::is_allowed;
 use posts::spans::{counted, in_range};
-use sources::{Source, count_is, height_at};
+use sources::Heights;
+
+// How many heights are judged at once.
+const MOST: usize = 1024;
 
 // Room for so many bytes.
-fn judge_room(due: usize, room: usize) -> Outcome
+fn judge_room(due: usize, room: usize) -> Result<(), Refusal>
     ensures { result ≡ room_for due room }
 {
     if room < due {
-        Outcome::Refused(Refusal::Room(due))
-    } else {
-        Outcome::Done
+        return Err(Refusal::Room(due));
     }
+    Ok(())
 }
 
 // Whether each of n heights, from height `from` on, may be held: by the lowest and the highest of them.
-fn are_allowed(
-    source: Source,
-    numbers: &[i16],
-    bytes: &[u8],
-    voids: bool,
-    from: usize,
-    n: usize,
-) -> bool
-    requires { Reaches (heights_from source numbers.now bytes.now) from n }
-    ensures { result ≡ heights_allowed voids (heights_from source numbers.now bytes.now) from n }
+fn are_allowed<H: Heights>(heights: H, voids: bool, from: usize, n: usize) -> bool
+    requires { Reaches (H.given heights) from n }
+    ensures { result ≡ heights_allowed voids (H.given heights) from n }
 {
     let mut lowest: i16 = 0;
     let mut highest: i16 = 0;
-    let mut i = 0;
-    while i < n {
-        let height = counted(height_at(source, numbers, bytes, from + i), voids);
+    for i in 0..n {
+        let height = counted(heights.at(from + i), voids);
         lowest = smaller(lowest, height);
         highest = larger(highest, height);
-        i += 1;
     }
     in_range(lowest, highest)
 }
 
-// The first height or void, from height `from` on, that may not be held, then the room.
-fn judge_one_by_one(
-    source: Source,
-    numbers: &[i16],
-    bytes: &[u8],
+// The first height or void, from height `from` on, that may not be held.
+fn judge_one_by_one<H: Heights>(
+    heights: H,
     voids: bool,
     from: usize,
     posts: usize,
-    due: usize,
-    room: usize,
-) -> Outcome
-    requires { count_of (heights_from source numbers.now bytes.now) ≡ posts }
-    ensures { result ≡ heights_from_then voids (heights_from source numbers.now bytes.now) from (posts - from) (room_for due room) }
+) -> Result<(), Refusal>
+    requires { count_of (H.given heights) ≡ posts }
+    ensures { result ≡ heights_from_then voids (H.given heights) from (posts - from) (Ok tt) }
 {
-    let mut i = from;
-    while i < posts {
-        let height = height_at(source, numbers, bytes, i);
-        if !is_allowed(height as i64, voids) {
-            return Outcome::Refused(Refusal::Height(i));
+    for i in from..posts {
+        if !is_allowed(i64::from(heights.at(i)), voids) {
+            return Err(Refusal::Height(i));
         }
-        i += 1;
     }
-    judge_room(due, room)
+    Ok(())
 }
 
-// The first height or void that may not be held, then the room: over parts, and one by one from a part that has such a height.
-fn judge_heights(
-    source: Source,
-    numbers: &[i16],
-    bytes: &[u8],
-    voids: bool,
-    posts: usize,
-    due: usize,
-    room: usize,
-) -> Outcome
-    requires { count_of (heights_from source numbers.now bytes.now) ≡ posts }
-    ensures { result ≡ heights_then voids (heights_from source numbers.now bytes.now) posts (room_for due room) }
+// The first height or void that may not be held: part by part, and one by one from a part that has such a height.
+fn judge_heights<H: Heights>(heights: H, voids: bool, posts: usize) -> Result<(), Refusal>
+    requires { count_of (H.given heights) ≡ posts }
+    ensures { result ≡ heights_then voids (H.given heights) posts (Ok tt) }
 {
-    let mut i = 0;
-    while 1024 <= posts - i {
-        if !are_allowed(source, numbers, bytes, voids, i, 1024) {
-            return judge_one_by_one(source, numbers, bytes, voids, i, posts, due, room);
+    for from in (0..posts).step_by(MOST) {
+        if !are_allowed(heights, voids, from, MOST.min(posts - from)) {
+            return judge_one_by_one(heights, voids, from, posts);
         }
-        i += 1024;
     }
-    if !are_allowed(source, numbers, bytes, voids, i, posts - i) {
-        return judge_one_by_one(source, numbers, bytes, voids, i, posts, due, room);
-    }
-    judge_room(due, room)
+    Ok(())
 }
 
 // So many posts are due, each one that may be held, and room for so many bytes.
-pub fn judge_posts(
-    source: Source,
-    numbers: &[i16],
-    bytes: &[u8],
+pub fn judge_posts<H: Heights>(
+    heights: H,
     voids: bool,
     posts: usize,
     due: usize,
     room: usize,
-) -> Outcome
-    ensures { result ≡ judged_posts posts due voids (heights_from source numbers.now bytes.now) room }
+) -> Result<(), Refusal>
+    ensures { result ≡ judged_posts posts due voids (H.given heights) room }
 {
-    if !count_is(source, numbers, bytes, posts) {
-        return Outcome::Refused(Refusal::GridLength(posts));
+    if !heights.count_is(posts) {
+        return Err(Refusal::GridLength(posts));
     }
-    judge_heights(source, numbers, bytes, voids, posts, due, room)
+    judge_heights(heights, voids, posts)?;
+    judge_room(due, room)
 }

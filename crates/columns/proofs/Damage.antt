@@ -1,4 +1,6 @@
 -- One byte of a good column replaced by another value: the column is refused, at a place inside it.
+use Rattle.std.specs.Prelude.{Result, Ok, Err, ⊤}
+use Rattle.answers.specs.declared.Refusal.{Refusal}
 use Rattle.std.proofs.Common.{◌≡◌, ℕ, zero, suc, ◌+◌, ◌-◌, ◌*◌, ◌<◌, ◌≤◌, Bool, true, false, eqb, List, length, get_or, take, set, sym, refl, ap, ◌∙◌, arith, length-set, length-take-le, get_or-set_other, get_or-take, get_or-set_same}
 use lib.Seq.{take-set-le, take-set-lt}
 use Rattle.octets.specs.Choice.{pick}
@@ -13,32 +15,30 @@ use Rattle.posts.specs.Words.{word_allowed}
 use Rattle.answers.specs.declared.Refusal.TheVariants.{Preamble, Checksum, Word}
 use Rattle.columns.specs.Column.{word_at, sum_at, word_in, GoodColumn}
 use Rattle.columns.specs.Judged.{and_then, head_of, words_from, judged_column, RefusedIn}
-use Rattle.columns.specs.declared.JudgedColumn.{JudgedColumn}
-use Rattle.columns.specs.declared.JudgedColumn.TheVariants.{Good, Refused}
 use Rattle.columns.proofs.Exactly.{good_only}
 
 -- ---- every answer is good, or has its place in the column
 
-abbrev PlacedIn : ℕ → ℕ → JudgedColumn → Type 0
-PlacedIn lo hi a = (a ≡ Good → ⊥) → RefusedIn lo hi a
+abbrev PlacedIn : ℕ → ℕ → Result ⊤ Refusal → Type 0
+PlacedIn lo hi a = (a ≡ Ok tt → ⊥) → RefusedIn lo hi a
 
 module _ (lo hi : ℕ) where
-  good_in : PlacedIn lo hi Good
+  good_in : PlacedIn lo hi (Ok tt)
   good_in n = n refl
 
-  pick_in : (t : Bool) (a b : JudgedColumn) → PlacedIn lo hi a → PlacedIn lo hi b → PlacedIn lo hi (pick t a b)
+  pick_in : (t : Bool) (a b : Result ⊤ Refusal) → PlacedIn lo hi a → PlacedIn lo hi b → PlacedIn lo hi (pick t a b)
   pick_in true a b p q = p
   pick_in false a b p q = q
 
-  then_in : (a b : JudgedColumn) → PlacedIn lo hi a → PlacedIn lo hi b → PlacedIn lo hi (and_then a b)
-  then_in Good b p q = q
-  then_in (Refused r) b p q = p
+  then_in : (a b : Result ⊤ Refusal) → PlacedIn lo hi a → PlacedIn lo hi b → PlacedIn lo hi (and_then a b)
+  then_in (Ok tt) b p q = q
+  then_in (Err r) b p q = p
 
 words_in_lem : (s : List ℕ) (voids : Bool) (base hi i n : ℕ) → base + word_at i + 2 * n ≤ hi → PlacedIn base hi (words_from s voids base i n)
 unfolding first_bad
 words_in_lem s voids base hi i zero h = good_in base hi
 words_in_lem s voids base hi i (suc n) h =
-    pick_in base hi (word_allowed voids (word_in s i)) _ (Refused (Word (base + word_at i)))
+    pick_in base hi (word_allowed voids (word_in s i)) _ (Err (Word (base + word_at i)))
     (words_in_lem s voids base hi (i + 1) n (omega arith)) (λ bad. omega arith)
 
 pub judged_in_lem : (s : List ℕ) (k posts : ℕ) (voids : Bool) (base : ℕ) → PlacedIn base (base + column_bytes posts) (judged_column s k posts voids base)
@@ -46,11 +46,11 @@ unfolding judged_column head_of
 judged_in_lem s k posts voids base =
     let hi = base + column_bytes posts in
     then_in base hi (head_of s k posts base) (words_from s voids base 0 posts)
-    (pick_in base hi (eqb (get_or s 0 0) 170) _ (Refused (Preamble base))
-    (pick_in base hi (eqb (number_at s 1 3) k) _ (Refused (Preamble (base + 1)))
-    (pick_in base hi (eqb (number_at s 4 2) k) _ (Refused (Preamble (base + 4)))
-    (pick_in base hi (eqb (number_at s 6 2) 0) _ (Refused (Preamble (base + 6)))
-    (pick_in base hi (eqb (number_at s (sum_at posts) 4) (sum_of (take (sum_at posts) s))) Good (Refused (Checksum (base + sum_at posts)))
+    (pick_in base hi (eqb (get_or s 0 0) 170) _ (Err (Preamble base))
+    (pick_in base hi (eqb (number_at s 1 3) k) _ (Err (Preamble (base + 1)))
+    (pick_in base hi (eqb (number_at s 4 2) k) _ (Err (Preamble (base + 4)))
+    (pick_in base hi (eqb (number_at s 6 2) 0) _ (Err (Preamble (base + 6)))
+    (pick_in base hi (eqb (number_at s (sum_at posts) 4) (sum_of (take (sum_at posts) s))) (Ok tt) (Err (Checksum (base + sum_at posts)))
     (good_in base hi) (λ bad. omega arith))
     (λ bad. omega arith))
     (λ bad. omega arith))

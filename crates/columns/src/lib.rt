@@ -15,54 +15,56 @@ use answers::Refusal;
 use octets::numbers::{be16, be24, be32};
 use posts::words::is_allowed;
 
-#[derive(Clone, Copy)]
-pub enum JudgedColumn {
-    Good,
-    Refused(Refusal),
-}
-
 // The preamble fields in their order, then the checksum against the sum that was found. Places count from `base`, the column's offset in the
 // file.
-pub fn judge_head(column: &[u8], number: usize, posts: usize, base: usize, sum: u32) -> JudgedColumn
+pub fn judge_head(
+    column: &[u8],
+    number: usize,
+    posts: usize,
+    base: usize,
+    sum: u32,
+) -> Result<(), Refusal>
     requires { WholeSummed column.now posts base sum }
     ensures { result ≡ head_of column.now number posts base }
 {
     if column[0] != 170 {
-        return JudgedColumn::Refused(Refusal::Preamble(base));
+        return Err(Refusal::Preamble(base));
     }
     if be24(column, 1) as usize != number {
-        return JudgedColumn::Refused(Refusal::Preamble(base + 1));
+        return Err(Refusal::Preamble(base + 1));
     }
-    if be16(column, 4) as usize != number {
-        return JudgedColumn::Refused(Refusal::Preamble(base + 4));
+    if usize::from(be16(column, 4)) != number {
+        return Err(Refusal::Preamble(base + 4));
     }
     if be16(column, 6) != 0 {
-        return JudgedColumn::Refused(Refusal::Preamble(base + 6));
+        return Err(Refusal::Preamble(base + 6));
     }
     let end = sum_at(posts);
     if be32(column, end) != sum {
-        return JudgedColumn::Refused(Refusal::Checksum(base + end));
+        return Err(Refusal::Checksum(base + end));
     }
-    JudgedColumn::Good
+    Ok(())
 }
 
 // The preamble, the checksum, then the first word that is not allowed: it is looked for only where there is one.
-pub fn judge(column: &[u8], number: usize, posts: usize, voids: bool, base: usize) -> JudgedColumn
+// Kept: posts and voids by themselves, as `judged_column` has them.
+pub fn judge(
+    column: &[u8],
+    number: usize,
+    posts: usize,
+    voids: bool,
+    base: usize,
+) -> Result<(), Refusal>
     requires { Whole column.now posts base }
     ensures { result ≡ judged_column column.now number posts voids base }
 {
     let measured = measure(column, posts, voids);
-    let head = judge_head(column, number, posts, base, measured.sum);
-    if let JudgedColumn::Refused(refusal) = head {
-        return JudgedColumn::Refused(refusal);
-    }
-    let mut i = search_from(measured, posts);
-    while i < posts {
+    judge_head(column, number, posts, base, measured.sum)?;
+    for i in search_from(measured, posts)..posts {
         let at = word_at(i);
         if !is_allowed(be16(column, at), voids) {
-            return JudgedColumn::Refused(Refusal::Word(base + at));
+            return Err(Refusal::Word(base + at));
         }
-        i += 1;
     }
-    JudgedColumn::Good
+    Ok(())
 }

@@ -1,6 +1,9 @@
 -- Y2 over the calls' own promises, inner and exported: a cell that a call of intake accepts under year 2 is accepted under year 1 with the same
 -- answer, and each lookup on it answers the same under both; where the headers are those of level 2, or of a complete cell, every call answers and
 -- leaves the same under any two years, whatever the bytes are.
+use Rattle.std.specs.Prelude.{Result, Ok, Err, ⊤}
+use Rattle.lookup.specs.declared.reach.Spot.{Spot}
+use Rattle.answers.specs.declared.Refusal.{Refusal}
 use Prim.Native.Nat.{ℕ}
 use mathlib.Core.Path.{◌≡◌, refl, sym, ap, ◌∙◌}
 use mathlib.Core.List.{List}
@@ -10,7 +13,6 @@ use borrow.Fn.Kinds as K
 use lib.ListN.{length}
 use Rattle.answers.specs.Told.{told, intake, post, position, act, number_told}
 use Rattle.answers.proofs.Injective.{told_injective}
-use Rattle.answers.specs.declared.Outcome.{Outcome}
 use Rattle.years.specs.Years.{Names}
 use Rattle.years.specs.declared.Year.{Year}
 use Rattle.years.specs.declared.Year.TheVariants.{One, Two}
@@ -19,8 +21,6 @@ use Rattle.layout.specs.Zones.{edge_of}
 use Rattle.host_answers.specs.Packed.{packed}
 use Rattle.headers.specs.Judged.{judged, frame_of, facts_in}
 use Rattle.headers.specs.declared.Facts.{Facts}
-use Rattle.headers.specs.declared.JudgedHeaders.{JudgedHeaders}
-use Rattle.headers.specs.declared.JudgedHeaders.TheVariants.{Good, Refused}
 use Rattle.headers.proofs.Voids.{level_2_alike, complete_alike}
 use Rattle.description.specs.declared.Description.{Description}
 use Rattle.description.specs.Facts.{facts_for}
@@ -33,7 +33,6 @@ use Rattle.intake.proofs.CellExactly.{cell_accepted}
 use Rattle.intake.proofs.BothYears.{taken_alike}
 use Rattle.cells.proofs.BothYears.{NoVoids, cell_before, cell_without_voids, lower_without_voids}
 use Rattle.lookup.specs.Lookup.{reading_of, looked_up}
-use Rattle.lookup.specs.declared.reach.Reached.{Reached}
 use Rattle.lookup.proofs.BothYears.{read_before, reached_alike}
 use Rattle.position.specs.Position.{located}
 use Rattle.position.proofs.BothYears.{located_alike}
@@ -75,13 +74,13 @@ use Rattle.demands.proofs.NamedYears.{intake_named, post_named, position_named, 
 
 -- the years are alike to these bytes: good headers of theirs give one frame under both
 abbrev pub Alike : Year → Year → List ℕ → Type 0
-Alike x y l = (f : Facts) → judged l ≡ Good f → frame_of x f ≡ frame_of y f
+Alike x y l = (f : Facts) → judged l ≡ Ok f → frame_of x f ≡ frame_of y f
 
 -- so they are where good headers are of level 2, or complete
-pub level_2 : (x y : Year) (l : List ℕ) → ((f : Facts) → judged l ≡ Good f → f.grid.level ≡ 2) → Alike x y l
+pub level_2 : (x y : Year) (l : List ℕ) → ((f : Facts) → judged l ≡ Ok f → f.grid.level ≡ 2) → Alike x y l
 level_2 x y l level f e = level_2_alike f x y (level f e)
 
-pub complete : (x y : Year) (l : List ℕ) → ((f : Facts) → judged l ≡ Good f → f.partial ≡ 0) → Alike x y l
+pub complete : (x y : Year) (l : List ℕ) → ((f : Facts) → judged l ≡ Ok f → f.partial ≡ 0) → Alike x y l
 complete x y l none f e = complete_alike f x y (none f e)
 
 -- what is read of some bytes is the same under two years
@@ -124,7 +123,7 @@ pub alike_read : (x y : Year) (l : List ℕ) → Alike x y l → SameRead x y l
 unfolding looked_up
 alike_read x y l same = record {
   intake = taken_alike x y l same;
-  post = λ c p. ap (λ (z : Reached). told post (reading_of z)) (reached_alike x y l same c p);
+  post = λ c p. ap (λ (z : Result Spot Refusal). told post (reading_of z)) (reached_alike x y l same c p);
   position = located_alike x y l (λ c p. ap reading_of (reached_alike x y l same c p));
 }
 
@@ -174,9 +173,9 @@ module _ (x y : Year) where
       ∙ sym (host_position_named κs' b q t kept' y n')
 
 -- the first step, of a piece to which the years are alike: its answer, and the state that it hands back
-due_same : (x y : Year) (j : JudgedHeaders) → ((f : Facts) → j ≡ Good f → frame_of x f ≡ frame_of y f) → due_after x j ≡ due_after y j
-due_same x y (Refused r) same = refl
-due_same x y (Good f) same =
+due_same : (x y : Year) (j : Result Facts Refusal) → ((f : Facts) → j ≡ Ok f → frame_of x f ≡ frame_of y f) → due_after x j ≡ due_after y j
+due_same x y (Err r) same = refl
+due_same x y (Ok f) same =
     ap (λ (g : Frame). Columns (record { level = f.grid.level; edge = edge_of f.latitude; voids = g.voids; next = 0 })) (same f refl)
 
 pub step_same : (x y : Year) (κs κs' : L.Lfts 1) (a : K.Dens κs step-kinds.ps) (b : K.Dens κs' step-kinds.ps) (r q : _) (s t : _)
@@ -196,11 +195,11 @@ step_same x y κs κs' a b r q s t kept kept' m n first first' names names' lent
 module _ (x y : Year) (l : List ℕ) (same : Alike x y l) (c p : ℕ) (z : ℤ) where
   told_same : edit_told x l c p z ≡ edit_told y l c p z
   unfolding edit_told judged_edit
-  told_same = ap (λ (w : Reached). told act (judged_at w z)) (reached_alike x y l same c p)
+  told_same = ap (λ (w : Result Spot Refusal). told act (judged_at w z)) (reached_alike x y l same c p)
 
   left_same : edited x l c p z ≡ edited y l c p z
   unfolding edited
-  left_same = ap (λ (w : Reached). edited_at w l p z) (reached_alike x y l same c p)
+  left_same = ap (λ (w : Result Spot Refusal). edited_at w l p z) (reached_alike x y l same c p)
 
 pub edit_same : (x y : Year) (κs κs' : L.Lfts 1) (a : K.Dens κs edit-kinds.ps) (b : K.Dens κs' edit-kinds.ps) (r q : _) (s t : _)
     → edit-call.Post κs a r s → edit-call.Post κs' b q t → Names a.0 x → Names b.0 y → a.1.0.now ≡ b.1.0.now
@@ -248,7 +247,7 @@ write_same x y κs κs' a b r q s t kept kept' n n' out description heights same
     let o = b.1.0.now in
     let judged = ap (λ (f : Frame). after_item (bad_item d) (judged_under f (numbers zs) (length o))) same in (
       told_injective act r q (one.0 ∙ (λ k. cell_told x (description k) (heights k) (out k)) ∙ ap (told act) judged ∙ sym other.0),
-      one.1 ∙ (λ k. cell_output x (description k) (heights k) (out k)) ∙ ap (λ (z : Outcome). output_after z (cell_of d zs) o) judged ∙ sym other.1,
+      one.1 ∙ (λ k. cell_output x (description k) (heights k) (out k)) ∙ ap (λ (z : Result ⊤ Refusal). output_after z (cell_of d zs) o) judged ∙ sym other.1,
     )
 
 module _ (x y : Year) (items : List ℤ) (grid out : List ℕ) (same : frame_for x (description_of items) ≡ frame_for y (description_of items)) where
@@ -262,7 +261,7 @@ module _ (x y : Year) (items : List ℤ) (grid out : List ℕ) (same : frame_for
 
   bytes_left_same : bytes_output x items grid out ≡ bytes_output y items grid out
   unfolding bytes_output
-  bytes_left_same = ap (λ (z : Outcome). output_after z (cell_of (description_of items) (heights_in_bytes grid)) out) judged_same
+  bytes_left_same = ap (λ (z : Result ⊤ Refusal). output_after z (cell_of (description_of items) (heights_in_bytes grid)) out) judged_same
 
 pub bytes_same : (x y : Year) (κs κs' : L.Lfts 3) (a : K.Dens κs bytes-kinds.ps) (b : K.Dens κs' bytes-kinds.ps) (r q : _) (s t : _)
     → bytes-call.Post κs a r s → bytes-call.Post κs' b q t → Names a.0 x → Names b.0 y → a.1.0.now ≡ b.1.0.now

@@ -1,5 +1,6 @@
 -- X2 over the column writers' own promises, inner and exported: given the posts of a column of an accepted cell, a call is done, and puts that
 -- column's bytes where its words are plain; and the cell is its headers and the columns so put.
+use Rattle.std.specs.Prelude.{Ok}
 use Prim.Native.Nat.{ℕ, ◌*◌, ◌<◌, ◌≤◌}
 use native.Mathlib.Omega.{arith}
 use mathlib.Core.Path.{◌≡◌, sym, ap, ◌∙◌}
@@ -10,7 +11,6 @@ use lib.Seq.{take_at}
 use contract.Lifetimes as L
 use borrow.Fn.Kinds as K
 use Rattle.answers.specs.Told.{told, act}
-use Rattle.answers.specs.declared.Outcome.TheVariants.{Done}
 use Rattle.answers.proofs.Injective.{told_injective}
 use Rattle.host_answers.specs.Packed.{packed}
 use Rattle.octets.specs.Numbers.{Bytes}
@@ -56,17 +56,17 @@ module _ {year : Year} (l : List ℕ) (cell : Cell year l) (bytes : Bytes l) whe
   Returned k out left = Plain (words_in (column_at l (facts_in l).grid k) (facts_in l).grid.posts) → left ≡ put_back k out
 
   returned : (level number : ℕ) (posts : List ℤ) (out : List ℕ) → OwnPosts level number posts out
-      → (column_told level number posts out ≡ told act Done) × Returned number out (column_output level number posts out)
+      → (column_told level number posts out ≡ told act (Ok tt)) × Returned number out (column_output level number posts out)
   unfolding column_told
   returned level number posts out own =
       rw (own.of_level, own.own) (ap (told act) (return_done l cell number own.column out own.room), λ plain. byte_return l cell number own.column out own.room bytes plain)
 
   -- the column writer over heights
   pub column_returned : (κs : L.Lfts 2) (a : K.Dens κs write-column-kinds.ps) (r : _) (s : _) → write-column.Post κs a r s
-      → OwnPosts a.1.0 a.1.1.0 a.1.1.1.0.now a.0.now → (r ≡ Done) × Returned a.1.1.0 a.0.now s.0.now
+      → OwnPosts a.1.0 a.1.1.0 a.1.1.1.0.now a.0.now → (r ≡ Ok tt) × Returned a.1.1.0 a.0.now s.0.now
   column_returned κs a r s kept own =
       let it = returned a.1.0 a.1.1.0 a.1.1.1.0.now a.0.now own in
-      (told_injective act r Done (kept.0 ∙ it.0), λ plain. kept.1 ∙ it.1 plain)
+      (told_injective act r (Ok tt) (kept.0 ∙ it.0), λ plain. kept.1 ∙ it.1 plain)
 
   -- and the exported one, over bytes: as many as the column's posts, and the same heights
   pub host_column_returned : (κs : L.Lfts 2) (a : K.Dens κs host-write-column-kinds.ps) (r : _) (s : _) → host-write-column.Post κs a r s

@@ -1,4 +1,6 @@
 -- X1 and P6 over the column writers' own promises, inner and exported: a call that was done leaves the writer's words of its heights, none of them 8000 hex.
+use Rattle.std.specs.Prelude.{Result, Ok, ⊤}
+use Rattle.answers.specs.declared.Refusal.{Refusal}
 use Prim.Native.Nat.{ℕ, ◌<◌}
 use mathlib.Core.Path.{◌≡◌, sym, subst, ◌∙◌}
 use mathlib.Core.Bool.{true}
@@ -14,8 +16,6 @@ use Rattle.octets.proofs.FrontLaws.{Begins, begins_less}
 use Rattle.octets.proofs.JoinedLaws.{listed_is}
 use Rattle.octets.proofs.WordLaws.{word_there}
 use Rattle.answers.specs.Told.{act}
-use Rattle.answers.specs.declared.Outcome.{Outcome}
-use Rattle.answers.specs.declared.Outcome.TheVariants.{Done}
 use Rattle.answers.proofs.Injective.{told_injective}
 use Rattle.layout.specs.Levels.{posts_of}
 use Rattle.posts.specs.Heights.{word_of}
@@ -54,24 +54,24 @@ column_put k zs rest held =
     record { words = same; plain = subst Plain (sym same) (words_plain true zs held) }
 
 -- heights from any source, once a call was done
-done_put : (level number : ℕ) (g : Heights) (out : List ℕ) → judged_column_write level number g (length out) ≡ Done
+done_put : (level number : ℕ) (g : Heights) (out : List ℕ) → judged_column_write level number g (length out) ≡ Ok tt
     → Put (posts_of level) (heights_of g) (output_after (judged_column_write level number g (length out)) (column_of number (heights_of g)) out)
 done_put level number g out done =
     let zs = heights_of g in
     let column = column_of number zs in
     let fine = (ready level number g (length out) done).fine in
-    subst (λ (x : Outcome). Put (posts_of level) zs (output_after x column out)) (sym done)
-    (subst (λ (n : ℕ). Put n zs (output_after Done column out)) (fine_long _ _ _ _ _ fine) (column_put number zs (drop (length column) out) (fine_held _ _ _ _ _ fine)))
+    subst (λ (x : Result ⊤ Refusal). Put (posts_of level) zs (output_after x column out)) (sym done)
+    (subst (λ (n : ℕ). Put n zs (output_after (Ok tt) column out)) (fine_long _ _ _ _ _ fine) (column_put number zs (drop (length column) out) (fine_held _ _ _ _ _ fine)))
 
 -- the column writer over heights
-pub column_words : (κs : L.Lfts 2) (a : K.Dens κs write-column-kinds.ps) (r : _) (s : _) → write-column.Post κs a r s → r ≡ Done
+pub column_words : (κs : L.Lfts 2) (a : K.Dens κs write-column-kinds.ps) (r : _) (s : _) → write-column.Post κs a r s → r ≡ Ok tt
     → Put (posts_of a.1.0) a.1.1.1.0.now s.0.now
 unfolding column_told column_output
 column_words κs a r s kept was =
     let zs = a.1.1.1.0.now in
     let out = a.0.now in
     let x = judged_column_write a.1.0 a.1.1.0 (numbers zs) (length out) in
-    let done : x ≡ Done = sym (told_injective act r x kept.0) ∙ was in
+    let done : x ≡ Ok tt = sym (told_injective act r x kept.0) ∙ was in
     subst (Put (posts_of a.1.0) zs) (sym kept.1)
     (subst (λ (ys : List ℤ). Put (posts_of a.1.0) ys (output_after x (column_of a.1.1.0 ys) out)) (numbers_are zs) (done_put a.1.0 a.1.1.0 (numbers zs) out done))
 

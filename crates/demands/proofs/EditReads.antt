@@ -1,5 +1,6 @@
 -- E2 over the calls' own promises, inner and exported: after an accepted edit of a cell a lookup of its post tells what was given, and a lookup of
 -- any other post what a lookup told before.
+use Rattle.std.specs.Prelude.{Ok}
 use Prim.Native.Nat.{ℕ}
 use mathlib.Core.Path.{◌≡◌, sym, ap, ◌∙◌}
 use mathlib.Core.List.{List}
@@ -8,7 +9,6 @@ use contract.Lifetimes as L
 use borrow.Fn.Kinds as K
 use Rattle.answers.specs.Told.{told, act}
 use Rattle.answers.specs.Told as telling
-use Rattle.answers.specs.declared.Outcome.TheVariants.{Done}
 use Rattle.answers.proofs.Injective.{told_injective}
 use Rattle.host_answers.specs.Packed.{packed}
 use Rattle.host_answers.specs.Apart.{told_in}
@@ -33,7 +33,7 @@ use Rattle.demands.proofs.HostAnswers.{was_done}
 use Rattle.demands.proofs.HostTold.{post_told_in}
 
 -- after an edit that was judged done, in the bytes m that it left: what is told of its post, and of any other
-module _ {year : Year} (l : List ℕ) (cell : Cell year l) (bytes : Bytes l) (c p : ℕ) (z : ℤ) (e : judged_edit year l c p z ≡ Done)
+module _ {year : Year} (l : List ℕ) (cell : Cell year l) (bytes : Bytes l) (c p : ℕ) (z : ℤ) (e : judged_edit year l c p z ≡ Ok tt)
     (m : List ℕ) (left : m ≡ edited year l c p z) (k i : ℕ) where
   own_told : k ≡ c → i ≡ p → looked_up year m k i ≡ height_said z
   own_told same-c same-p =
@@ -49,8 +49,8 @@ module _ {year : Year} (l : List ℕ) (cell : Cell year l) (bytes : Bytes l) (c 
 
 -- a call of the edit that keeps its promise and was done
 module _ (κs : L.Lfts 1) (a : K.Dens κs edit-kinds.ps) (r : _) (s : _) (kept : edit.Post κs a r s) (year : Year) (names : Names a.0 year)
-    (was : r ≡ Done) (cell : Cell year a.1.0.now) (bytes : Bytes a.1.0.now) where
-  judged_done : judged_edit year a.1.0.now a.1.1.0 a.1.1.1.0 a.1.1.1.1.0 ≡ Done
+    (was : r ≡ Ok tt) (cell : Cell year a.1.0.now) (bytes : Bytes a.1.0.now) where
+  judged_done : judged_edit year a.1.0.now a.1.1.0 a.1.1.1.0 a.1.1.1.1.0 ≡ Ok tt
   unfolding edit_told
   judged_done = sym (told_injective act r _ (edit_named κs a r s kept year names).0) ∙ was
 
@@ -76,7 +76,7 @@ module _ (κs : L.Lfts 1) (a : K.Dens κs edit-kinds.ps) (r : _) (s : _) (kept :
 -- the same for a C host: the edit answered 0
 module _ (κs : L.Lfts 1) (a : K.Dens κs host-edit-kinds.ps) (r : _) (s : _) (kept : host-edit.Post κs a r s) (year : Year) (names : Names a.0 year)
     (was : r ≡ 0) (cell : Cell year a.1.0.now) (bytes : Bytes a.1.0.now) where
-  host_judged_done : judged_edit year a.1.0.now a.1.1.0 a.1.1.1.0 a.1.1.1.1.0 ≡ Done
+  host_judged_done : judged_edit year a.1.0.now a.1.1.0 a.1.1.1.0 a.1.1.1.1.0 ≡ Ok tt
   unfolding edit_told
   host_judged_done = was_done (judged_edit year a.1.0.now a.1.1.0 a.1.1.1.0 a.1.1.1.1.0) (sym (host_edit_named κs a r s kept year names).0 ∙ was)
 

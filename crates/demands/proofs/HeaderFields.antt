@@ -1,5 +1,9 @@
 -- N21 to N23 over the calls' own promises, inner and exported: where a field of the headers is the first that breaks its rule, each call that judges
 -- headers tells the same of it, the place in that field and the number 21, 22 or 23 exactly as the scope says; and of nothing else.
+use Rattle.std.specs.Prelude.{Result, Ok, Err, ⊤}
+use Rattle.lookup.specs.declared.reach.Spot.{Spot}
+use Rattle.headers.specs.declared.Facts.{Facts}
+use Rattle.posts.specs.declared.Post.TheVariants as reads
 use Prim.Native.Nat.{ℕ, ◌+◌, ◌<◌, ◌≤◌}
 use native.Mathlib.Omega.{arith}
 use mathlib.Core.Path.{◌≡◌, refl, sym, ap, subst}
@@ -13,9 +17,6 @@ use borrow.Fn.Kinds as K
 use Rattle.answers.specs.Told.{Told, numbered, number_told, place_told, told, intake, post, position, act}
 use Rattle.answers.specs.declared.Refusal.{Refusal}
 use Rattle.answers.specs.declared.Refusal.TheVariants as because
-use Rattle.answers.specs.declared.Outcome.{Outcome}
-use Rattle.answers.specs.declared.Reading.{Reading}
-use Rattle.answers.specs.declared.Reading.TheVariants as reading
 use Rattle.years.specs.declared.Year.{Year}
 use Rattle.years.specs.Years.{Names}
 use Rattle.host_answers.specs.Apart.{told_in}
@@ -25,24 +26,18 @@ use Rattle.posts.specs.declared.Post.TheVariants.{Height, Void}
 use Rattle.fields.specs.Table.{bytes_in, field_at}
 use Rattle.headers.specs.Basis.{basis_in}
 use Rattle.headers.specs.Judged.{broken, judged, frame_in, facts_in}
-use Rattle.headers.specs.declared.JudgedHeaders.{JudgedHeaders}
-use Rattle.headers.specs.declared.JudgedHeaders.TheVariants as headers
 use Rattle.headers.proofs.Exactly.{First, Answer, short, breaks, good, answered, first_refused}
 use Rattle.headers.proofs.BrokenPlace.{PlaceIn, place_told_lem}
 use Rattle.header_writer.proofs.FieldTold.{NumberExactly, number_told_lem}
 use Rattle.columns.specs.Column.{word_at, sum_at}
 use Rattle.columns.specs.Judged.{judged_column}
-use Rattle.columns.specs.declared.JudgedColumn.{JudgedColumn}
-use Rattle.columns.specs.declared.JudgedColumn.TheVariants as columns
 use Rattle.columns.proofs.ColumnExactly as column-rows
 use Rattle.cells.specs.Cell.{start_of, column_at}
 use Rattle.description.specs.Described.{described_by, described}
 use Rattle.intake.specs.Intake.{taken}
 use Rattle.intake.proofs.IntakeExactly as intake-rows
-use Rattle.lookup.specs.Lookup.{post_reads, reading_of, looked_up}
+use Rattle.lookup.specs.Lookup.{reading_of, looked_up}
 use Rattle.lookup.specs.Reach.{spot_in, reached}
-use Rattle.lookup.specs.declared.reach.Reached.{Reached}
-use Rattle.lookup.specs.declared.reach.Reached.TheVariants as reach
 use Rattle.lookup.proofs.ReachedExactly as lookup-rows
 use Rattle.position.specs.Position.{nearest_column, nearest_post, said_at, located}
 use Rattle.position.proofs.PositionExactly as position-rows
@@ -92,10 +87,10 @@ pub record HeadersSaid (l : List ℕ) (t : Told) : Type 0 where
   pub only : 21 ≤ number_told t → BrokenField l
 
 -- from what its definition makes of refused headers, and of any
-said_by_lem : (l : List ℕ) (t : Told) → ((r : Refusal) → judged l ≡ headers.Refused r → t ≡ numbered r) → (21 ≤ number_told t → BrokenField l) → HeadersSaid l t
+said_by_lem : (l : List ℕ) (t : Told) → ((r : Refusal) → judged l ≡ Err r → t ≡ numbered r) → (21 ≤ number_told t → BrokenField l) → HeadersSaid l t
 said_by_lem l t refused from-21 = record { field = λ i f. told_so l i f t (refused _ (first_refused l i f)); only = from-21 }
 
-by_answer : (l : List ℕ) (j : JudgedHeaders) → Answer l j → (r : Refusal) → j ≡ headers.Refused r → 21 ≤ number_told (numbered r) → BrokenField l
+by_answer : (l : List ℕ) (j : Result Facts Refusal) → Answer l j → (r : Refusal) → j ≡ Err r → 21 ≤ number_told (numbered r) → BrokenField l
 by_answer l _ (short h) r e n =
     let same : because.Short (length l) ≡ r = cc in
     let low : 21 ≤ 1 = subst (λ (x : Refusal). 21 ≤ number_told (numbered x)) (sym same) n in
@@ -103,15 +98,15 @@ by_answer l _ (short h) r e n =
 by_answer l _ (breaks i f) r e n = record { row = i; first = f }
 by_answer l _ (good h) r e n = let z : ◌≡◌ {A = ℕ} 0 1 = cc in absurd (omega arith)
 
-headers_broken : (l : List ℕ) (r : Refusal) → judged l ≡ headers.Refused r → 21 ≤ number_told (numbered r) → BrokenField l
+headers_broken : (l : List ℕ) (r : Refusal) → judged l ≡ Err r → 21 ≤ number_told (numbered r) → BrokenField l
 headers_broken l r e n = by_answer l (judged l) (answered l) r e n
 
 -- a column's refusals are 4, 5 and 6
-same_below : (q r : Refusal) → columns.Refused q ≡ columns.Refused r → number_told (numbered q) < 21 → number_told (numbered r) < 21
+same_below : (q r : Refusal) → ◌≡◌ {A = Result ⊤ Refusal} (Err q) (Err r) → number_told (numbered q) < 21 → number_told (numbered r) < 21
 same_below q r e h = let same : q ≡ r = cc in subst (λ (x : Refusal). number_told (numbered x) < 21) same h
 
 module _ (s : List ℕ) (k posts : ℕ) (voids : Bool) (base : ℕ) where
-  by_column : (j : JudgedColumn) → column-rows.Row s k posts voids base j → (r : Refusal) → j ≡ columns.Refused r → number_told (numbered r) < 21
+  by_column : (j : Result ⊤ Refusal) → column-rows.Row s k posts voids base j → (r : Refusal) → j ≡ Err r → number_told (numbered r) < 21
   by_column _ (column-rows.sentinel n) r e = same_below (because.Preamble base) r e (lit< tt)
   by_column _ (column-rows.block a n) r e = same_below (because.Preamble (base + 1)) r e (lit< tt)
   by_column _ (column-rows.longitude a b n) r e = same_below (because.Preamble (base + 4)) r e (lit< tt)
@@ -120,7 +115,7 @@ module _ (s : List ℕ) (k posts : ℕ) (voids : Bool) (base : ℕ) where
   by_column _ (column-rows.word h i u bad f) r e = same_below (because.Word (base + word_at i)) r e (lit< tt)
   by_column _ (column-rows.good h f) r e = let z : ◌≡◌ {A = ℕ} 0 1 = cc in absurd (omega arith)
 
-  column_below : (r : Refusal) → judged_column s k posts voids base ≡ columns.Refused r → number_told (numbered r) < 21
+  column_below : (r : Refusal) → judged_column s k posts voids base ≡ Err r → number_told (numbered r) < 21
   column_below r e = by_column (judged_column s k posts voids base) (column-rows.row s k posts voids base) r e
 
 -- the rows of intake, and of a post that is reached
@@ -133,11 +128,11 @@ by_intake year l _ (intake-rows.column h k u f w r e) n =
 by_intake year l _ (intake-rows.surplus h f m) n = absurd (omega (arith, n))
 by_intake year l _ (intake-rows.fine cell) n = absurd (omega (arith, n))
 
-reads_0 : (q : Post) → number_told (told post (post_reads q)) ≡ 0
+reads_0 : (q : Post) → number_told (told post (Ok q)) ≡ 0
 reads_0 (Height z) = refl
 reads_0 Void = refl
 
-by_reached : (year : Year) (l : List ℕ) (c p : ℕ) (x : Reached) → lookup-rows.Row year l c p x → 21 ≤ number_told (told post (reading_of x)) → BrokenField l
+by_reached : (year : Year) (l : List ℕ) (c p : ℕ) (x : Result Spot Refusal) → lookup-rows.Row year l c p x → 21 ≤ number_told (told post (reading_of x)) → BrokenField l
 by_reached year l c p _ (lookup-rows.bad_headers r e) n = headers_broken l r e n
 by_reached year l c p _ (lookup-rows.off h away) n = absurd (omega (arith, n))
 by_reached year l c p _ (lookup-rows.cut o s) n = absurd (omega (arith, n))
@@ -146,10 +141,10 @@ by_reached year l c p _ (lookup-rows.column o w r e) n =
     absurd (omega (arith, n, column_below (column_at l g c) c g.posts (frame_in year l).voids (start_of g c) r e))
 by_reached year l c p _ (lookup-rows.good o w g) n = absurd (omega (arith, n, reads_0 (post_of (spot_in l (frame_in year l) c p).word)))
 
-same_number : (c p : ℕ) (y : Reading) → number_told (said_at c p y) ≡ number_told (told post y)
-same_number c p (reading.Height z) = refl
-same_number c p reading.Void = refl
-same_number c p (reading.Refused r) = refl
+same_number : (c p : ℕ) (y : Result Post Refusal) → number_told (said_at c p y) ≡ number_told (told post y)
+same_number c p (Ok (reads.Height z)) = refl
+same_number c p (Ok reads.Void) = refl
+same_number c p (Err r) = refl
 
 by_position : (year : Year) (l : List ℕ) (latitude longitude : ℤ) (t : Told) → position-rows.Row year l latitude longitude t → 21 ≤ number_told t → BrokenField l
 by_position year l latitude longitude _ (position-rows.bad_headers r e) n = headers_broken l r e n
@@ -159,14 +154,14 @@ by_position year l latitude longitude _ (position-rows.near f e k w) n =
     let p = nearest_post f.grid k in
     by_reached year l c p (reached year l c p) (lookup-rows.row year l c p) (omega (arith, n, same_number c p (reading_of (reached year l c p))))
 
-by_edit : (year : Year) (l : List ℕ) (c p : ℕ) (z : ℤ) (x : Outcome) → edit-rows.EditRow year l c p z x → 21 ≤ number_told (told act x) → BrokenField l
-by_edit year l c p z _ (edit-rows.reaching r row) n = by_reached year l c p (reach.Refused r) row n
+by_edit : (year : Year) (l : List ℕ) (c p : ℕ) (z : ℤ) (x : Result ⊤ Refusal) → edit-rows.EditRow year l c p z x → 21 ≤ number_told (told act x) → BrokenField l
+by_edit year l c p z _ (edit-rows.reaching r row) n = by_reached year l c p (Err r) row n
 by_edit year l c p z _ (edit-rows.height r e) n = absurd (omega (arith, n))
 by_edit year l c p z _ (edit-rows.done r e) n = absurd (omega (arith, n))
 
-by_described : (l : List ℕ) (x : JudgedHeaders) → judged l ≡ x → 21 ≤ number_told (said_of_described (described_by l x)) → BrokenField l
-by_described l (headers.Good f) e n = absurd (omega (arith, n))
-by_described l (headers.Refused r) e n = headers_broken l r e n
+by_described : (l : List ℕ) (x : Result Facts Refusal) → judged l ≡ x → 21 ≤ number_told (said_of_described (described_by l x)) → BrokenField l
+by_described l (Ok f) e n = absurd (omega (arith, n))
+by_described l (Err r) e n = headers_broken l r e n
 
 -- what each definition says of headers
 intake_says : (year : Year) (l : List ℕ) → HeadersSaid l (taken year l)
@@ -175,13 +170,13 @@ intake_says year l = said_by_lem l (taken year l) (λ r e. intake-rows.given yea
 describe_says : (l : List ℕ) → HeadersSaid l (said_of_described (described l))
 unfolding described
 describe_says l =
-    said_by_lem l (said_of_described (described l)) (λ r e. ap (λ (x : JudgedHeaders). said_of_described (described_by l x)) e) (by_described l (judged l) refl)
+    said_by_lem l (said_of_described (described l)) (λ r e. ap (λ (x : Result Facts Refusal). said_of_described (described_by l x)) e) (by_described l (judged l) refl)
 
 post_says : (year : Year) (l : List ℕ) (c p : ℕ) → HeadersSaid l (looked_up year l c p)
 unfolding looked_up
 post_says year l c p =
     said_by_lem l (looked_up year l c p)
-    (λ r e. ap (λ (x : Reached). told post (reading_of x)) (lookup-rows.given year l c p _ (lookup-rows.bad_headers r e)))
+    (λ r e. ap (λ (x : Result Spot Refusal). told post (reading_of x)) (lookup-rows.given year l c p _ (lookup-rows.bad_headers r e)))
     (by_reached year l c p (reached year l c p) (lookup-rows.row year l c p))
 
 position_says : (year : Year) (l : List ℕ) (latitude longitude : ℤ) → HeadersSaid l (located year l latitude longitude)

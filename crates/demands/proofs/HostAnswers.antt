@@ -1,4 +1,5 @@
 -- An act answers a C host 0 exactly where it was done, and intake never answers 0.
+use Rattle.std.specs.Prelude.{Result, Ok, Err, ⊤}
 use Prim.Native.Nat.{ℕ}
 use native.Mathlib.Omega.{arith}
 use mathlib.Core.Path.{◌≡◌, refl, sym, ap, ◌∙◌}
@@ -10,8 +11,6 @@ use borrow.Author.Tests.{eq-eqb, ne_eqb}
 use borrow.Fn.Kinds as K
 use Rattle.answers.specs.Told.{Told, refused, numbered, number_told, place_told, told, act}
 use Rattle.answers.specs.declared.Refusal.{Refusal}
-use Rattle.answers.specs.declared.Outcome.{Outcome}
-use Rattle.answers.specs.declared.Outcome.TheVariants.{Done, Refused}
 use Rattle.answers.proofs.Injective.{refusal_told, number_ranged}
 use Rattle.years.specs.declared.Year.{Year}
 use Rattle.years.proofs.YearLaws.{by_year, under_named, under_none}
@@ -30,19 +29,19 @@ never_0 r e =
     omega (arith, told, n.0, n.1)
 
 -- an act answers 0 exactly where it was done
-pub was_done : (x : Outcome) → packed (told act x) ≡ 0 → x ≡ Done
-was_done Done e = refl
-was_done (Refused r) e = absurd (never_0 r e)
+pub was_done : (x : Result ⊤ Refusal) → packed (told act x) ≡ 0 → x ≡ Ok tt
+was_done (Ok tt) e = refl
+was_done (Err r) e = absurd (never_0 r e)
 
-pub done_0 : packed (told act Done) ≡ 0
+pub done_0 : packed (told act (Ok tt)) ≡ 0
 unfolding packed
 done_0 = refl
 
 -- an act that was judged so answers 0 exactly where it was done
-pub answer_is : (x : Outcome) (t : Bool) → (x ≡ Done → t ≡ true) × (t ≡ true → x ≡ Done) → eqb (packed (told act x)) 0 ≡ t
-answer_is Done t e = eq-eqb (packed (told act Done)) 0 done_0 ∙ sym (e.0 refl)
-answer_is (Refused r) true e = absurd (never_0 r (ap (λ (x : Outcome). packed (told act x)) (e.1 refl) ∙ done_0))
-answer_is (Refused r) false e = ne_eqb (packed (numbered r)) 0 (never_0 r)
+pub answer_is : (x : Result ⊤ Refusal) (t : Bool) → (x ≡ Ok tt → t ≡ true) × (t ≡ true → x ≡ Ok tt) → eqb (packed (told act x)) 0 ≡ t
+answer_is (Ok tt) t e = eq-eqb (packed (told act (Ok tt))) 0 done_0 ∙ sym (e.0 refl)
+answer_is (Err r) true e = absurd (never_0 r (ap (λ (x : Result ⊤ Refusal). packed (told act x)) (e.1 refl) ∙ done_0))
+answer_is (Err r) false e = ne_eqb (packed (numbered r)) 0 (never_0 r)
 
 -- a refusal's number is above 0, and an accepted cell's answer holds a grid
 by_row : (year : Year) (s : List ℕ) (t : Told) → IntakeRow year s t → packed t ≡ 0 → ⊥

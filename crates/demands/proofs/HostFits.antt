@@ -1,4 +1,10 @@
 -- What a C host's writers, description reader and grid tell fits the bits of a packed answer too (rule B1).
+use Rattle.std.specs.Prelude.{Result, Ok, Err, ⊤}
+use Rattle.layout.specs.declared.NoGrid.TheVariants as none
+use Rattle.layout.specs.declared.NoGrid.{NoGrid}
+use Rattle.layout.specs.declared.Grid.{Grid}
+use Rattle.headers.specs.declared.Facts.{Facts}
+use Rattle.answers.specs.declared.Refusal.{Refusal}
 use Prim.Native.Nat.{ℕ, suc}
 use native.Mathlib.Omega.{arith}
 use mathlib.Core.Path.{◌≡◌, refl}
@@ -8,17 +14,12 @@ use lib.Dec.{lit<}
 use lib.IntN.{ℤ}
 use lib.ListN.{length}
 use Rattle.answers.specs.Told.{told, act}
-use Rattle.answers.specs.declared.Outcome.{Outcome}
 use Rattle.host_answers.specs.Apart.{Fits}
 use Rattle.host_answers.specs.Apart as fits
 use Rattle.headers.specs.Judged.{judged}
-use Rattle.headers.specs.declared.JudgedHeaders.{JudgedHeaders}
-use Rattle.headers.specs.declared.JudgedHeaders.TheVariants as headers
 use Rattle.layout.specs.Levels.{posts_of, column_bytes}
 use Rattle.layout.specs.Grid.{laid}
 use Rattle.layout.specs.Zones.{near_edge}
-use Rattle.layout.specs.declared.Laid.{Laid}
-use Rattle.layout.specs.declared.Laid.TheVariants.{Out, NoLevel, NoZone}
 use Rattle.layout.proofs.Ranges.{ranged, laid_out}
 use Rattle.description.specs.Described.{described_by, described}
 use Rattle.description.proofs.RangedItems.{failed_below}
@@ -40,7 +41,7 @@ use Rattle.dted.specs.Grid.{said_of_laid, grid_told}
 use Rattle.dted.specs.Description.{said_of_described}
 use Rattle.demands.proofs.PlacesFit.{small_fits, ranged_fits, headers_fit, posts_fits, number_fits}
 
-cell_by : (year : Year) (items : List ℤ) (grid : List ℕ) (room : ℕ) (x : Outcome) → cell.CellRow year items grid room x → Fits (told act x)
+cell_by : (year : Year) (items : List ℤ) (grid : List ℕ) (room : ℕ) (x : Result ⊤ Refusal) → cell.CellRow year items grid room x → Fits (told act x)
 unfolding number_tests
 cell_by year items grid room _ (item n low) =
     small_fits 9 (suc n) (lit< tt) (lit< tt) (omega (arith, failed_below (number_tests items) n low.0))
@@ -62,21 +63,21 @@ write_column_fits level number posts out =
     number_fits level number _ (posts_fits (posts_of level) (column_bytes (posts_of level)) true (in_bytes posts) (length out)) _ (column.row level number (in_bytes posts) (length out))
 
 -- the grid
-grid_by_lem : (level edge : ℕ) (x : Laid) → laid level edge ≡ x → Fits (said_of_laid x)
-grid_by_lem level edge (Out g) e =
+grid_by_lem : (level edge : ℕ) (x : Result Grid NoGrid) → laid level edge ≡ x → Fits (said_of_laid x)
+grid_by_lem level edge (Ok g) e =
     let o = laid_out level edge g e in
     rw o.1.1 (ranged_fits _ (ranged level edge o.0 o.1.0))
-grid_by_lem level edge NoLevel e = fits.refused 9 1 (lit< tt) (lit< tt) (lit< tt)
-grid_by_lem level edge NoZone e = fits.refused 9 2 (lit< tt) (lit< tt) (lit< tt)
+grid_by_lem level edge (Err none.Level) e = fits.refused 9 1 (lit< tt) (lit< tt) (lit< tt)
+grid_by_lem level edge (Err none.Zone) e = fits.refused 9 2 (lit< tt) (lit< tt) (lit< tt)
 
 pub grid_fits : (level : ℕ) (latitude : ℤ) → Fits (grid_told level latitude)
 unfolding grid_told
 grid_fits level latitude = grid_by_lem level (near_edge latitude) (laid level (near_edge latitude)) refl
 
 -- the description reader
-describe_by : (s : List ℕ) (x : JudgedHeaders) → judged s ≡ x → Fits (said_of_described (described_by s x))
-describe_by s (headers.Good f) e = fits.done
-describe_by s (headers.Refused r) e = headers_fit s r e
+describe_by : (s : List ℕ) (x : Result Facts Refusal) → judged s ≡ x → Fits (said_of_described (described_by s x))
+describe_by s (Ok f) e = fits.done
+describe_by s (Err r) e = headers_fit s r e
 
 pub describe_fits : (s : List ℕ) → Fits (said_of_described (described s))
 unfolding described

@@ -1,4 +1,7 @@
 -- D2 for a C host: what a call of the writer leaves, where it answered 0, is read back whole by any later call that names the same year.
+use Rattle.std.specs.Prelude.{Result, Ok, ⊤}
+use Rattle.description.specs.declared.Description.{Description}
+use Rattle.answers.specs.declared.Refusal.{Refusal}
 use Prim.Native.Nat.{ℕ, ◌<◌}
 use mathlib.Core.Path.{◌≡◌, sym, ap, ◌∙◌}
 use mathlib.Core.List.{List, ◌++◌}
@@ -7,14 +10,11 @@ use lib.ListN.{length, drop}
 use contract.Lifetimes as L
 use borrow.Fn.Kinds as K
 use Rattle.answers.specs.Told.{accepted}
-use Rattle.answers.specs.declared.Outcome.{Outcome}
-use Rattle.answers.specs.declared.Outcome.TheVariants.{Done}
 use Rattle.years.specs.declared.Year.{Year}
 use Rattle.years.specs.Years.{Names}
 use Rattle.host_answers.specs.Packed.{packed}
 use Rattle.description.specs.Described.{described}
 use Rattle.fields.specs.declared.Item.{Item}
-use Rattle.description.specs.declared.Described.{Described}
 use Rattle.description.specs.Facts.{facts_for}
 use Rattle.intake.specs.Intake.{taken}
 use Rattle.lookup.specs.Lookup.{height_said, looked_up}
@@ -54,7 +54,7 @@ module _ (κs : L.Lfts 3) (a : K.Dens κs write-kinds.ps) (r : _) (s : _) (kept 
   abbrev pub cell : List ℕ
   cell = cell_of (description_of items) heights
 
-  accepted_call : judged_bytes year items a.1.1.1.0.now (length a.1.0.now) ≡ Done
+  accepted_call : judged_bytes year items a.1.1.1.0.now (length a.1.0.now) ≡ Ok tt
   unfolding bytes_told
   accepted_call = was_done (judged_bytes year items a.1.1.1.0.now (length a.1.0.now)) (sym (host_write_named κs a r s kept year names).0 ∙ was)
 
@@ -70,7 +70,7 @@ module _ (κs : L.Lfts 3) (a : K.Dens κs write-kinds.ps) (r : _) (s : _) (kept 
   -- the output begins with them, and past them is as it was
   pub written : s.1.0.now ≡ cell ++ drop (length cell) a.1.0.now
   unfolding bytes_output
-  written = (host_write_named κs a r s kept year names).1 ∙ ap (λ (x : Outcome). output_after x cell a.1.0.now) accepted_call
+  written = (host_write_named κs a r s kept year names).1 ∙ ap (λ (x : Result ⊤ Refusal). output_after x cell a.1.0.now) accepted_call
 
   -- none of their words is the second word of height 0
   pub plain : Plain (words_of_cell cell)
@@ -89,7 +89,7 @@ module _ (κs : L.Lfts 3) (a : K.Dens κs write-kinds.ps) (r : _) (s : _) (kept 
   described_back κs' b q t same kept' =
       let back : t.1.0.now ≡ numbers_of (description_of items) =
       kept'.1 ∙ ap (λ (l : List ℕ). items_after (described l) b.1.0.now) same
-      ∙ ap (λ (x : Described). items_after x b.1.0.now) (restored_description (description_of items) (in_range_lem items fine.numbers) heights)
+      ∙ ap (λ (x : Result Description Refusal). items_after x b.1.0.now) (restored_description (description_of items) (in_range_lem items fine.numbers) heights)
       in
       (ap length back, λ i. ap (λ (zs : List ℤ). item_in zs i) back ∙ description_back items fine.numbers i)
 

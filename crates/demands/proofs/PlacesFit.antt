@@ -1,4 +1,7 @@
 -- What every call tells fits the bits that a packed answer has for it (rule B1), so that nothing is cut.
+use Rattle.std.specs.Prelude.{Result, Ok, Err, ⊤}
+use Rattle.lookup.specs.declared.reach.Spot.{Spot}
+use Rattle.headers.specs.declared.Facts.{Facts}
 use Prim.Native.Nat.{ℕ, zero, suc, ◌+◌, ◌<◌, ◌≤◌}
 use native.Mathlib.Omega.{arith}
 use mathlib.Core.Path.{◌≡◌, refl, sym, subst, ◌∙◌}
@@ -14,7 +17,6 @@ use Rattle.answers.specs.Told.{Told, refused, accepted, numbered, number_told, p
 use Rattle.answers.specs.Told as telling
 use Rattle.answers.specs.declared.Refusal.{Refusal}
 use Rattle.answers.specs.declared.Refusal.TheVariants as because
-use Rattle.answers.specs.declared.Outcome.{Outcome}
 use Rattle.answers.proofs.Injective.{refusal_told, number_ranged}
 use Rattle.host_answers.specs.Apart.{FitsHeight, Fits}
 use Rattle.host_answers.specs.Apart as fits
@@ -32,22 +34,16 @@ use Rattle.posts.proofs.Readings as reads
 use Rattle.fields.specs.Table.{field_at}
 use Rattle.headers.specs.Basis.{basis_in}
 use Rattle.headers.specs.Judged.{broken, judged, facts_in, frame_of, frame_in, Follows}
-use Rattle.headers.specs.declared.JudgedHeaders.{JudgedHeaders}
-use Rattle.headers.specs.declared.JudgedHeaders.TheVariants as headers
 use Rattle.headers.proofs.Exactly.{Answer, short, breaks, good, answered, follows_good}
 use Rattle.headers.proofs.BrokenPlace.{place_told_lem}
 use Rattle.headers.proofs.FirstFour.{good_facts}
 use Rattle.headers.proofs.TableRows.{row}
 use Rattle.columns.specs.Judged.{judged_column, RefusedIn}
-use Rattle.columns.specs.declared.JudgedColumn.{JudgedColumn}
-use Rattle.columns.specs.declared.JudgedColumn.TheVariants as columns
 use Rattle.columns.specs.Column.{word_in, GoodColumn}
 use Rattle.columns.proofs.Damage.{judged_in_lem}
 use Rattle.cells.specs.Cell.{start_of, column_at}
-use Rattle.lookup.specs.Lookup.{post_reads, reading_of, looked_up}
+use Rattle.lookup.specs.Lookup.{reading_of, looked_up}
 use Rattle.lookup.specs.Reach.{reached}
-use Rattle.lookup.specs.declared.reach.Reached.{Reached}
-use Rattle.lookup.specs.declared.reach.Reached.TheVariants as reach
 use Rattle.lookup.proofs.ReachedExactly as exactly
 use Rattle.position.specs.Position.{nearest_column, nearest_post, said_at, read_at, located}
 use Rattle.position.proofs.PositionExactly as position
@@ -90,7 +86,7 @@ height_fits (pos n) e = omega (arith, leb-true n 9000 (sym (up_in_range n) ∙ e
 height_fits (negsuc n) e = omega (arith, leb-true (suc n) 12000 (sym (down_in_range (suc n)) ∙ e))
 
 -- a refusal of headers has its place in them
-headers_by : (s : List ℕ) (j : JudgedHeaders) → Answer s j → (r : Refusal) → j ≡ headers.Refused r → place_told (numbered r) ≤ most
+headers_by : (s : List ℕ) (j : Result Facts Refusal) → Answer s j → (r : Refusal) → j ≡ Err r → place_told (numbered r) ≤ most
 headers_by s _ (short h) r e = let same : because.Short (length s) ≡ r = cc in subst (λ (x : Refusal). place_told (numbered x) ≤ most) same (omega arith)
 headers_by s _ (breaks i f) r e =
     let same : broken s (basis_in s) (field_at i) ≡ r = cc in
@@ -98,15 +94,15 @@ headers_by s _ (breaks i f) r e =
     subst (λ (x : Refusal). place_told (numbered x) ≤ most) same (omega (arith, p.is, p.inside, (row i f.below).within))
 headers_by s _ (good f) r e = let z : ◌≡◌ {A = ℕ} 0 1 = cc in absurd (omega arith)
 
-pub headers_fit : (s : List ℕ) (r : Refusal) → judged s ≡ headers.Refused r → Fits (numbered r)
+pub headers_fit : (s : List ℕ) (r : Refusal) → judged s ≡ Err r → Fits (numbered r)
 headers_fit s r e = numbered_fits r (headers_by s (judged s) (answered s) r e)
 
 -- a refusal of a column has its place in it
 column_fits : (s : List ℕ) (k posts : ℕ) (voids : Bool) (base : ℕ) → base + column_bytes posts ≤ most → (r : Refusal)
-    → judged_column s k posts voids base ≡ columns.Refused r → Fits (numbered r)
+    → judged_column s k posts voids base ≡ Err r → Fits (numbered r)
 column_fits s k posts voids base small r e =
     let inside = judged_in_lem s k posts voids base (λ q. let z : ◌≡◌ {A = ℕ} 0 1 = cc in absurd (omega arith)) in
-    let there : RefusedIn base (base + column_bytes posts) (columns.Refused r) = subst (RefusedIn base (base + column_bytes posts)) e inside in
+    let there : RefusedIn base (base + column_bytes posts) (Err r) = subst (RefusedIn base (base + column_bytes posts)) e inside in
     numbered_fits r (omega (arith, there.1))
 
 -- no column of a grid ends past the longest cell
@@ -122,10 +118,10 @@ module _ (s : List ℕ) (f : Frame) (in_range_lem : Ranged f.grid) where
       (λ e. rw e (small_fits 7 f.grid.bytes.cell (lit< tt) (lit< tt) in_range_lem.cell_high))
 
   -- a column's refusal, or the rest
-  next_fits : (k : ℕ) → k < f.grid.columns → (x : JudgedColumn)
+  next_fits : (k : ℕ) → k < f.grid.columns → (x : Result ⊤ Refusal)
       → judged_column (column_at s f.grid k) k f.grid.posts f.voids (start_of f.grid k) ≡ x → (rest : Told) → Fits rest → Fits (or_rest x rest)
-  next_fits k h columns.Good e rest fit = fit
-  next_fits k h (columns.Refused r) e rest fit =
+  next_fits k h (Ok tt) e rest fit = fit
+  next_fits k h (Err r) e rest fit =
       column_fits (column_at s f.grid k) k f.grid.posts f.voids (start_of f.grid k) (omega (arith, end_small f.grid in_range_lem k h, in_range_lem.column)) r e
 
   columns_fit : (k n : ℕ) → k + n ≤ f.grid.columns → Fits (columns_from s f k n)
@@ -138,9 +134,9 @@ module _ (s : List ℕ) (f : Frame) (in_range_lem : Ranged f.grid) where
       (λ e. rw e (next_fits k here (judged_column (column_at s g k) k g.posts f.voids (start_of g k)) refl _ (columns_fit (k + 1) n (omega arith))))
       (λ e. rw e (small_fits 3 (start_of g k) (lit< tt) (lit< tt) (omega (arith, end_small g in_range_lem k here))))
 
-intake_by : (year : Year) (s : List ℕ) (x : JudgedHeaders) → judged s ≡ x → Fits (taken_by year s x)
-intake_by year s (headers.Good f) e = columns_fit s (frame_of year f) (good_facts s f e).grid 0 f.grid.columns (omega arith)
-intake_by year s (headers.Refused r) e = headers_fit s r e
+intake_by : (year : Year) (s : List ℕ) (x : Result Facts Refusal) → judged s ≡ x → Fits (taken_by year s x)
+intake_by year s (Ok f) e = columns_fit s (frame_of year f) (good_facts s f e).grid 0 f.grid.columns (omega arith)
+intake_by year s (Err r) e = headers_fit s r e
 
 -- intake
 pub intake_fits : (year : Year) (s : List ℕ) → Fits (taken year s)
@@ -152,7 +148,7 @@ follows_ranged s h = (good_facts s (facts_in s) (follows_good s h)).grid
 
 -- a post that is reached, or not, under what is said of it
 module _ (year : Year) (s : List ℕ) (c p : ℕ) where
-  refused_fits : (x : Reached) → exactly.Row year s c p x → (r : Refusal) → x ≡ reach.Refused r → Fits (numbered r)
+  refused_fits : (x : Result Spot Refusal) → exactly.Row year s c p x → (r : Refusal) → x ≡ Err r → Fits (numbered r)
   refused_fits _ (exactly.bad_headers r e) q same = let t : r ≡ q = cc in subst (λ (y : Refusal). Fits (numbered y)) t (headers_fit s r e)
   refused_fits _ (exactly.off h away) q same = let t : because.OffGrid ≡ q = cc in subst (λ (y : Refusal). Fits (numbered y)) t off_grid_fits
   refused_fits _ (exactly.cut o cut_off) q same =
@@ -173,18 +169,18 @@ module _ (year : Year) (s : List ℕ) (c p : ℕ) where
       → Reads (frame_in year s).voids (post_of (word_in (column_at s (facts_in s).grid c) p))
   allowed_reads o g = reads.reads (frame_in year s).voids (word_in (column_at s (facts_in s).grid c) p) (g.words p o.post)
 
-  post_fits_by : (x : Reached) → exactly.Row year s c p x → Fits (told telling.post (reading_of x))
+  post_fits_by : (x : Result Spot Refusal) → exactly.Row year s c p x → Fits (told telling.post (reading_of x))
   post_fits_by _ (exactly.bad_headers r e) = refused_fits _ (exactly.bad_headers r e) r refl
   post_fits_by _ (exactly.off h away) = refused_fits _ (exactly.off h away) because.OffGrid refl
   post_fits_by _ (exactly.cut o cut_off) = refused_fits _ (exactly.cut o cut_off) _ refl
   post_fits_by _ (exactly.column o whole r e) = refused_fits _ (exactly.column o whole r e) r refl
   post_fits_by _ (exactly.good o whole g) = said_fits (allowed_reads o g)
     where
-      said_fits : {x : Post} → Reads (frame_in year s).voids x → Fits (told telling.post (post_reads x))
+      said_fits : {x : Post} → Reads (frame_in year s).voids x → Fits (told telling.post (Ok x))
       said_fits (reads.height z e) = fits.height z (height_fits z e)
       said_fits (reads.void e) = fits.void
 
-  near_fits_by : (x : Reached) → exactly.Row year s c p x → Fits (read_at c p x)
+  near_fits_by : (x : Result Spot Refusal) → exactly.Row year s c p x → Fits (read_at c p x)
   near_fits_by _ (exactly.bad_headers r e) = refused_fits _ (exactly.bad_headers r e) r refl
   near_fits_by _ (exactly.off h away) = refused_fits _ (exactly.off h away) because.OffGrid refl
   near_fits_by _ (exactly.cut o cut_off) = refused_fits _ (exactly.cut o cut_off) _ refl
@@ -196,7 +192,7 @@ module _ (year : Year) (s : List ℕ) (c p : ℕ) where
           let f = follows_ranged s o.headers in
           (omega (arith, o.column, f.columns_high), omega (arith, o.post, f.posts_high))
 
-      said_fits : {x : Post} → Reads (frame_in year s).voids x → Fits (said_at c p (post_reads x))
+      said_fits : {x : Post} → Reads (frame_in year s).voids x → Fits (said_at c p (Ok x))
       said_fits (reads.height z e) = fits.height_at c p z small.0 small.1 (height_fits z e)
       said_fits (reads.void e) = fits.void_at c p small.0 small.1
 
@@ -216,8 +212,8 @@ pub position_fits : (year : Year) (s : List ℕ) (latitude longitude : ℤ) → 
 position_fits year s latitude longitude = position_by year s latitude longitude (located year s latitude longitude) (position.row year s latitude longitude)
 
 -- the edit
-edit_by : (year : Year) (s : List ℕ) (c p : ℕ) (z : ℤ) (x : Outcome) → edit-rows.EditRow year s c p z x → Fits (told act x)
-edit_by year s c p z _ (edit-rows.reaching r row) = refused_fits year s c p (reach.Refused r) row r refl
+edit_by : (year : Year) (s : List ℕ) (c p : ℕ) (z : ℤ) (x : Result ⊤ Refusal) → edit-rows.EditRow year s c p z x → Fits (told act x)
+edit_by year s c p z _ (edit-rows.reaching r row) = refused_fits year s c p (Err r) row r refl
 edit_by year s c p z _ (edit-rows.height r bad) = fits.refused 11 0 (lit< tt) (lit< tt) (lit< tt)
 edit_by year s c p z _ (edit-rows.done r a) = fits.done
 
@@ -234,16 +230,16 @@ under_fits n small tells each =
 
 -- the writers
 pub posts_fits : (posts bytes : ℕ) (voids : Bool) (g : Heights) (room : ℕ) → posts ≤ most → bytes ≤ most
-    → (x : Outcome) → PostsRow posts bytes voids g room x → Fits (told act x)
+    → (x : Result ⊤ Refusal) → PostsRow posts bytes voids g room x → Fits (told act x)
 posts_fits posts bytes voids g room hp hb _ (differs e) = small_fits 10 posts (lit< tt) (lit< tt) hp
 posts_fits posts bytes voids g room hp hb _ (not_held l n h bad f) = small_fits 11 n (lit< tt) (lit< tt) (omega arith)
 posts_fits posts bytes voids g room hp hb _ (no_room l f h) = small_fits 12 bytes (lit< tt) (lit< tt) hb
 posts_fits posts bytes voids g room hp hb _ (fine l f h) = fits.done
 
 -- of a column, where what is judged after its number fits
-pub number_fits : (level number : ℕ) (Rest : Outcome → Type 0)
-    → (posts_of level ≤ most → column_bytes (posts_of level) ≤ most → (x : Outcome) → Rest x → Fits (told act x))
-    → (x : Outcome) → NumberRow level number Rest x → Fits (told act x)
+pub number_fits : (level number : ℕ) (Rest : Result ⊤ Refusal → Type 0)
+    → (posts_of level ≤ most → column_bytes (posts_of level) ≤ most → (x : Result ⊤ Refusal) → Rest x → Fits (told act x))
+    → (x : Result ⊤ Refusal) → NumberRow level number Rest x → Fits (told act x)
 unfolding grid_of
 number_fits level number Rest f _ (level_past h) = fits.refused 9 1 (lit< tt) (lit< tt) (lit< tt)
 number_fits level number Rest f _ (number_past h u) = off_grid_fits

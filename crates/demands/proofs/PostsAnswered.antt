@@ -1,5 +1,6 @@
 -- D2 and L2 over the lookups' own promises, inner and exported: each post of an accepted cell is answered as what its word says, one height in
 -- range or void, by its number and by a position, and 0 where 8000 hex stands; and the headers and the post's column alone decide.
+use Rattle.std.specs.Prelude.{Some, Ok}
 use Prim.Native.Nat.{ℕ, ◌/◌, ◌%◌, ◌<◌, ◌≤◌}
 use mathlib.Core.Path.{◌≡◌, sym, ap, subst, ◌∙◌}
 use mathlib.Core.Bool.{true}
@@ -27,11 +28,10 @@ use Rattle.columns.specs.Column.{word_in}
 use Rattle.cells.specs.Cell.{column_at, Cell}
 use Rattle.cells.proofs.ColumnPlaces.{column_whole}
 use Rattle.intake.proofs.CellExactly.{post_reads_lem}
-use Rattle.lookup.specs.Lookup.{post_reads, looked_up}
+use Rattle.lookup.specs.Lookup.{looked_up}
 use Rattle.lookup.proofs.LookupLaws.{post_found, same_post}
 use Rattle.lookup.proofs.ReachedExactly.{end_in, good, given}
 use Rattle.position.specs.Position.{nearest, said_at, read_at, located}
-use Rattle.position.specs.declared.Along.TheVariants.{On}
 use Rattle.position.proofs.NearestPost.{AsNear}
 use Rattle.position.proofs.PositionExactly.{north_of, east_of, nearest_answered}
 use Rattle.cells.proofs.MadeCells.{cell_facts}
@@ -56,7 +56,7 @@ post_in l c p = post_of (stored_at l c p)
 -- that is told, and it is a height in range, or void where voids are allowed
 pub record Answered (year : Year) (l : List ℕ) (c p : ℕ) (t : Told) : Type 0 where
   pub reads : Reads (voids_allowed year (facts_in l)) (post_in l c p)
-  pub said : t ≡ told telling.post (post_reads (post_in l c p))
+  pub said : t ≡ told telling.post (Ok (post_in l c p))
   pub zero : stored_at l c p ≡ negative_zero → t ≡ telling.height (pos 0)
 
 -- so for the post nearest a position that lies so far north and east of the cell's corner
@@ -65,7 +65,7 @@ pub record AnsweredNear (year : Year) (l : List ℕ) (north east : ℕ) (t : Tol
   pub number : ℕ
   pub on_grid : (column < (facts_in l).grid.columns) × (number < (facts_in l).grid.posts)
   pub reads : Reads (voids_allowed year (facts_in l)) (post_in l column number)
-  pub said : t ≡ said_at column number (post_reads (post_in l column number))
+  pub said : t ≡ said_at column number (Ok (post_in l column number))
   pub zero : stored_at l column number ≡ negative_zero → t ≡ telling.height_at column number (pos 0)
   pub by_column : (j : ℕ) → AsNear east (facts_in l).grid.interval.longitude column j
   pub by_number : (j : ℕ) → AsNear north (facts_in l).grid.interval.latitude number j
@@ -80,11 +80,11 @@ post_answered_so year l cell c p hc hp =
     record {
       reads = post_reads_lem year l cell c p hc hp;
       said = found;
-      zero = λ e. found ∙ ap (λ (x : Post). told telling.post (post_reads x)) (zero_read l c p e);
+      zero = λ e. found ∙ ap (λ (x : Post). told telling.post (Ok x)) (zero_read l c p e);
     }
 
 position_answered_so : (year : Year) (l : List ℕ) → Cell year l → (latitude longitude : ℤ) (north east : ℕ)
-    → north_of (facts_in l) latitude ≡ On north → east_of (facts_in l) longitude ≡ On east → AnsweredNear year l north east (located year l latitude longitude)
+    → north_of (facts_in l) latitude ≡ Some north → east_of (facts_in l) longitude ≡ Some east → AnsweredNear year l north east (located year l latitude longitude)
 position_answered_so year l cell latitude longitude north east n e =
     let f = facts_in l in
     let dx = f.grid.interval.longitude in
@@ -103,7 +103,7 @@ position_answered_so year l cell latitude longitude north east n e =
       on_grid = (near.on_columns, near.on_posts);
       reads = post_reads_lem year l cell c p near.on_columns near.on_posts;
       said = found;
-      zero = λ z. found ∙ ap (λ (x : Post). said_at c p (post_reads x)) (zero_read l c p z);
+      zero = λ z. found ∙ ap (λ (x : Post). said_at c p (Ok x)) (zero_read l c p z);
       by_column = near.by_column;
       by_number = near.by_post;
     }
@@ -141,7 +141,7 @@ post_local κs κs' a b r q s t kept kept' n c p alike =
 -- lookup of a position
 pub position_answered : (κs : L.Lfts 1) (a : K.Dens κs locate-kinds.ps) (r : _) (s : _) → locate.Post κs a r s → (year : Year) → Names a.0 year
     → Cell year a.1.0.now → (north east : ℕ)
-    → north_of (facts_in a.1.0.now) a.1.1.0 ≡ On north → east_of (facts_in a.1.0.now) a.1.1.1.0 ≡ On east
+    → north_of (facts_in a.1.0.now) a.1.1.0 ≡ Some north → east_of (facts_in a.1.0.now) a.1.1.1.0 ≡ Some east
     → AnsweredNear year a.1.0.now north east (told telling.position r)
 position_answered κs a r s kept year names cell north east n e =
     subst (AnsweredNear year a.1.0.now north east) (sym (position_named κs a r s kept year names)) (position_answered_so year a.1.0.now cell a.1.1.0 a.1.1.1.0 north east n e)
@@ -171,7 +171,7 @@ host_post_local κs κs' a b r q s t kept kept' n c p alike =
 
 pub host_position_answered : (κs : L.Lfts 1) (a : K.Dens κs host-position-kinds.ps) (r : _) (s : _) → host-position.Post κs a r s → (year : Year) → Names a.0 year
     → Cell year a.1.0.now
-    → (north east : ℕ) → north_of (facts_in a.1.0.now) a.1.1.0 ≡ On north → east_of (facts_in a.1.0.now) a.1.1.1.0 ≡ On east
+    → (north east : ℕ) → north_of (facts_in a.1.0.now) a.1.1.0 ≡ Some north → east_of (facts_in a.1.0.now) a.1.1.1.0 ≡ Some east
     → AnsweredNear year a.1.0.now north east (told_in r)
 host_position_answered κs a r s kept year names cell north east n e =
     subst (AnsweredNear year a.1.0.now north east) (sym (position_told_in κs a r s kept year names))

@@ -1,4 +1,7 @@
 -- N15, D1 over the calls' own promises, inner and exported: a refused call changes no byte that it was lent.
+use Rattle.std.specs.Prelude.{Result, Ok, Err, ⊤}
+use Rattle.description.specs.declared.Description.{Description}
+use Rattle.answers.specs.declared.Refusal.{Refusal}
 use Prim.Native.Nat.{ℕ, ◌<◌}
 use native.Mathlib.Omega.{arith}
 use mathlib.Core.Path.{◌≡◌, refl, ap, subst, ◌∙◌}
@@ -8,8 +11,6 @@ use lib.ListN.{length}
 use contract.Lifetimes as L
 use borrow.Fn.Kinds as K
 use Rattle.answers.specs.Told.{Told, number_told, told, act}
-use Rattle.answers.specs.declared.Outcome.{Outcome}
-use Rattle.answers.specs.declared.Outcome.TheVariants.{Done, Refused}
 use Rattle.years.specs.declared.Year.{Year}
 use Rattle.years.specs.Years.{under, left_under}
 use Rattle.years.proofs.YearLaws.{by_year, under_named, left_named, left_none}
@@ -17,8 +18,6 @@ use Rattle.host_answers.specs.Packed.{packed}
 use Rattle.host_answers.specs.Apart.{number_in, Fits}
 use Rattle.host_answers.proofs.TakenApart.{number_told_lem}
 use Rattle.description.specs.Described.{described}
-use Rattle.description.specs.declared.Described.{Described}
-use Rattle.description.specs.declared.Described.TheVariants as description
 use Rattle.column_writer.specs.Judged.{output_after}
 use Rattle.column_writer.specs.Column.{judged_column_write, column_told_from, column_output_from, column_told, column_output}
 use Rattle.columns.specs.Column.{column_of}
@@ -64,17 +63,17 @@ packed_so : {A : Type 0} (t : Told) (r : ℕ) (before left after : List A) → F
 packed_so t r before left after fits e f leaves some = f ∙ leaves (subst (λ (n : ℕ). 0 < n) (ap number_in e ∙ number_told_lem t fits) some)
 
 -- by what was judged
-output_leaves : (x : Outcome) (written out : List ℕ) → Leaves (told act x) out (output_after x written out)
-output_leaves Done written out some = absurd (omega arith)
-output_leaves (Refused r) written out some = refl
+output_leaves : (x : Result ⊤ Refusal) (written out : List ℕ) → Leaves (told act x) out (output_after x written out)
+output_leaves (Ok tt) written out some = absurd (omega arith)
+output_leaves (Err r) written out some = refl
 
-edit_by : (year : Year) (l : List ℕ) (c p : ℕ) (z : ℤ) (x : Outcome) → judged_edit year l c p z ≡ x → Leaves (told act x) l (edited year l c p z)
-edit_by year l c p z Done e some = absurd (omega arith)
-edit_by year l c p z (Refused r) e some = refused_leaves year l c p z r e
+edit_by : (year : Year) (l : List ℕ) (c p : ℕ) (z : ℤ) (x : Result ⊤ Refusal) → judged_edit year l c p z ≡ x → Leaves (told act x) l (edited year l c p z)
+edit_by year l c p z (Ok tt) e some = absurd (omega arith)
+edit_by year l c p z (Err r) e some = refused_leaves year l c p z r e
 
-items_leaves : (x : Described) (items : List ℤ) → Leaves (said_of_described x) items (items_after x items)
-items_leaves (description.As d) items some = absurd (omega arith)
-items_leaves (description.Refused r) items some = refl
+items_leaves : (x : Result Description Refusal) (items : List ℤ) → Leaves (said_of_described x) items (items_after x items)
+items_leaves (Ok d) items some = absurd (omega arith)
+items_leaves (Err r) items some = refl
 
 edit_leaves : (year : Year) (l : List ℕ) (c p : ℕ) (z : ℤ) → Leaves (edit_told year l c p z) l (edited year l c p z)
 unfolding edit_told

@@ -1,5 +1,7 @@
 -- A cell may have 8000 hex for every post, and is then not its columns written afresh: what D3 and X2 say of those needs its condition. Lookups
 -- answer 0 everywhere on it, and a call of the edit that was done, inner or exported, replaces its own word alone.
+use Rattle.std.specs.Prelude.{Result, ⊤}
+use Rattle.answers.specs.declared.Refusal.{Refusal}
 use Prim.Native.Nat.{ℕ, zero, suc, ◌+◌, ◌*◌, ◌<◌}
 use native.Mathlib.Omega.{arith}
 use mathlib.Core.Path.{◌≡◌, sym, ap, subst, ◌∙◌}
@@ -12,7 +14,6 @@ use borrow.Fn.Kinds as K
 use Rattle.octets.specs.Numbers.{Bytes}
 use Rattle.octets.proofs.JoinedLaws.{length_listed, get_or_listed, part_within}
 use Rattle.answers.specs.Told.{Told, height, height_at}
-use Rattle.answers.specs.declared.Outcome.{Outcome}
 use Rattle.years.specs.declared.Year.{Year}
 use Rattle.years.specs.Years.{Names}
 use Rattle.layout.specs.Grid.{header_bytes}
@@ -96,7 +97,7 @@ module _ (year : Year) (d : Description) (e : in_range d ≡ true) where
   sea_position north east t near = near.zero (sea_stored near.column near.number near.on_grid.0 near.on_grid.1)
 
   -- D3: a refused call and then one that was done, which leaves 8000 hex in every post but its own
-  pub sea_edited : (κs κs' : L.Lfts 1) (a : K.Dens κs kinds.ps) (b : K.Dens κs' kinds.ps) (r q : Outcome) (s t : _)
+  pub sea_edited : (κs κs' : L.Lfts 1) (a : K.Dens κs kinds.ps) (b : K.Dens κs' kinds.ps) (r q : Result ⊤ Refusal) (s t : _)
       → edit.Post κs a r s → edit.Post κs' b q t → Names a.0 year → Names b.0 year → a.1.0.now ≡ sea_cell d → b.1.0.now ≡ s.1.0.now → Bytes (sea_cell d)
       → inner.is_done r ≡ false → inner.is_done q ≡ true
       → t.1.0.now ≡ with_replaced (facts_in (sea_cell d)).grid (sea_cell d) (inner.call_of κs' b ∷ [])

@@ -1,9 +1,11 @@
 -- D4: any two results that an entry point's own promise allows are equal: the answer, and each byte that it was lent.
+use Rattle.std.specs.Prelude.{Result}
+use Rattle.answers.specs.declared.Refusal.{Refusal}
+use Rattle.answers.specs.declared.Verdict.{Verdict}
 use mathlib.Core.Path.{◌≡◌, sym, ap, ◌∙◌}
 use contract.Lifetimes as L
 use borrow.Fn.Kinds as K
 use Rattle.answers.specs.Told.{intake, post, position, act}
-use Rattle.answers.specs.declared.Verdict.{Verdict}
 use Rattle.answers.specs.Told as telling
 use Rattle.answers.proofs.Injective.{told_injective}
 use Rattle.answers.proofs.number.Reads as number
@@ -87,7 +89,7 @@ wanted_settled κs a r r' s s' p q = p.0 ∙ sym q.0
 pub step_settled : (κs : L.Lfts 1) (a : K.Dens κs step-kinds.ps) (r r' : _) (s s' : _) → step.Post κs a r s → step.Post κs a r' s' → r ≡ r'
 step_settled κs a r r' s s' p q =
     let same : r.answer ≡ r'.answer = told_injective intake r.answer r'.answer (p.said ∙ sym q.said) in
-    let state : r.steps.phase ≡ r'.steps.phase = p.state ∙ ap (λ (v : Verdict). after a.0.phase a.1.0.now v) same ∙ sym q.state in
+    let state : r.steps.phase ≡ r'.steps.phase = p.state ∙ ap (λ (v : Result Verdict Refusal). after a.0.phase a.1.0.now v) same ∙ sym q.state in
     λ k. record { steps = record { phase = state k }; answer = same k }
 
 -- the writers and the edit: the answer, and every byte of what was lent

@@ -1,5 +1,6 @@
 -- N17 over the calls' own promises, inner and exported: a number that names no year is refused as 17, its place that number, whatever else was
 -- given; and no lent byte changes. Of an exported call it is so in the bits of its answer, for every number of 32 bits.
+use Rattle.std.specs.Prelude.{Err}
 use Prim.Native.Nat.{ℕ, ◌<◌}
 use native.Mathlib.Omega.{arith}
 use mathlib.Core.Path.{◌≡◌, ap, ◌∙◌}
@@ -9,7 +10,6 @@ use contract.Lifetimes as L
 use borrow.Fn.Kinds as K
 use Rattle.answers.specs.Told.{Told, refused, told, intake, post, position, act}
 use Rattle.answers.specs.declared.Refusal.TheVariants as because
-use Rattle.answers.specs.declared.Verdict.TheVariants as verdict
 use Rattle.answers.proofs.Injective.{told_injective}
 use Rattle.years.specs.Years.{NamesNone, under}
 use Rattle.years.specs.declared.Year.{Year}
@@ -77,10 +77,10 @@ bytes_unknown κs a r s kept none = (kept.0 ∙ under_none a.0 _ none, kept.1 �
 
 -- the first step answers it, and hands back the state in which every later one does
 pub step_unknown : (κs : L.Lfts 1) (a : K.Dens κs step-kinds.ps) (r : _) (s : _) → step_call.Post κs a r s
-    → (n : ℕ) → a.0.phase ≡ Headers n → NamesNone n → (r.answer ≡ verdict.Refused (because.Year n)) × (r.steps.phase ≡ Over (verdict.Refused (because.Year n)))
+    → (n : ℕ) → a.0.phase ≡ Headers n → NamesNone n → (r.answer ≡ Err (because.Year n)) × (r.steps.phase ≡ Over (Err (because.Year n)))
 step_unknown κs a r s kept n first none =
     let piece = a.1.0.now in
-    let v = verdict.Refused (because.Year n) in
+    let v = Err (because.Year n) in
     let answer : r.answer ≡ v = told_injective intake r.answer v (rw first at kept.said ∙ said_none n none piece) in
     (answer, rw first at kept.state ∙ ap (after (Headers n) piece) answer)
 

@@ -1,4 +1,6 @@
 -- D2 over the promises themselves: what a call of the writer leaves, where it was done, is read back whole by any later call that names the same year.
+use Rattle.std.specs.Prelude.{Result, Ok, ⊤}
+use Rattle.answers.specs.declared.Refusal.{Refusal}
 use Prim.Native.Nat.{ℕ, ◌<◌}
 use mathlib.Core.Path.{◌≡◌, sym, ap, subst, ◌∙◌}
 use mathlib.Core.List.{List, ◌++◌}
@@ -8,13 +10,10 @@ use contract.Lifetimes as L
 use borrow.Fn.Kinds as K
 use Rattle.answers.specs.Told.{told, act, done, accepted}
 use Rattle.answers.specs.Told as telling
-use Rattle.answers.specs.declared.Outcome.{Outcome}
-use Rattle.answers.specs.declared.Outcome.TheVariants.{Done}
 use Rattle.answers.proofs.Injective.{told_injective}
 use Rattle.years.specs.declared.Year.{Year}
 use Rattle.years.specs.Years.{Names}
 use Rattle.description.specs.declared.Description.{Description}
-use Rattle.description.specs.declared.Described.TheVariants.{As}
 use Rattle.description.proofs.describe.describe.Reads as describe
 use Rattle.description.proofs.describe.describe.Kinds as describe-kinds
 use Rattle.intake.proofs.intake.Reads as intake
@@ -51,9 +50,9 @@ module _ (κs : L.Lfts 2) (a : K.Dens κs write-kinds.ps) (r : _) (s : _) (kept 
   abbrev pub cell : List ℕ
   cell = cell_of description grid
 
-  accepted_call : judged_cell_write year description (numbers grid) (length a.1.0.now) ≡ Done
+  accepted_call : judged_cell_write year description (numbers grid) (length a.1.0.now) ≡ Ok tt
   unfolding cell_told
-  accepted_call = told_injective act (judged_cell_write year description (numbers grid) (length a.1.0.now)) Done (sym (write_named κs a r s kept year names).0 ∙ was)
+  accepted_call = told_injective act (judged_cell_write year description (numbers grid) (length a.1.0.now)) (Ok tt) (sym (write_named κs a r s kept year names).0 ∙ was)
 
   fine : Ready year description (numbers grid) (length a.1.0.now)
   fine = ready year description (numbers grid) (length a.1.0.now) accepted_call
@@ -64,7 +63,7 @@ module _ (κs : L.Lfts 2) (a : K.Dens κs write-kinds.ps) (r : _) (s : _) (kept 
   -- the output begins with them, and past them is as it was
   pub written : s.1.0.now ≡ cell ++ drop (length cell) a.1.0.now
   unfolding cell_output
-  written = (write_named κs a r s kept year names).1 ∙ ap (λ (x : Outcome). output_after x cell a.1.0.now) accepted_call
+  written = (write_named κs a r s kept year names).1 ∙ ap (λ (x : Result ⊤ Refusal). output_after x cell a.1.0.now) accepted_call
 
   -- none of their words is the second word of height 0
   pub plain : Plain (words_of_cell cell)
@@ -76,7 +75,7 @@ module _ (κs : L.Lfts 2) (a : K.Dens κs write-kinds.ps) (r : _) (s : _) (kept 
   taken_back κs' b q t same post names' = intake_named κs' b q t post year names' ∙ ap (taken year) same ∙ restored_accepted year description fine.ranged grid fine.fine.long held
 
   -- the description reader gives the description back
-  pub described_back : (κs' : L.Lfts 1) (b : K.Dens κs' describe-kinds.ps) (q : _) (t : _) → b.0.now ≡ cell → describe.Post κs' b q t → q ≡ As description
+  pub described_back : (κs' : L.Lfts 1) (b : K.Dens κs' describe-kinds.ps) (q : _) (t : _) → b.0.now ≡ cell → describe.Post κs' b q t → q ≡ Ok description
   described_back κs' b q t same post = post ∙ ap described same ∙ restored_description description fine.ranged grid
 
   -- and lookup gives each post of the grid

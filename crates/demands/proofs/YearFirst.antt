@@ -1,5 +1,8 @@
 -- N14, N17 over the calls' own promises, inner and exported: what a call tells is a row of its order, 17 first and then the rows under the year
 -- named; and it is the only one.
+use Rattle.std.specs.Prelude.{Result}
+use Rattle.answers.specs.declared.Refusal.{Refusal}
+use Rattle.lookup.specs.declared.reach.Spot.{Spot}
 use Prim.Native.Nat.{ℕ, ◌<◌}
 use mathlib.Core.Path.{◌≡◌, refl, sym, ap, subst, ◌∙◌}
 use mathlib.Core.List.{List}
@@ -16,7 +19,6 @@ use Rattle.intake.specs.Intake.{taken}
 use Rattle.intake.proofs.IntakeExactly as intake-rows
 use Rattle.lookup.specs.Reach.{reached}
 use Rattle.lookup.specs.Lookup.{reading_of, looked_up}
-use Rattle.lookup.specs.declared.reach.Reached.{Reached}
 use Rattle.lookup.proofs.ReachedExactly as post-rows
 use Rattle.position.specs.Position.{located}
 use Rattle.position.proofs.PositionExactly as position-rows
@@ -80,7 +82,7 @@ abbrev pub IntakeRows : ℕ → List ℕ → Told → Type 0
 IntakeRows n s = Rows n (λ (year : Year). intake-rows.IntakeRow year s)
 
 abbrev pub PostRows : ℕ → List ℕ → ℕ → ℕ → Told → Type 0
-PostRows n s c p = Rows n (λ (year : Year). Tells (post-rows.Row year s c p) (λ (x : Reached). told post (reading_of x)))
+PostRows n s c p = Rows n (λ (year : Year). Tells (post-rows.Row year s c p) (λ (x : Result Spot Refusal). told post (reading_of x)))
 
 abbrev pub PositionRows : ℕ → List ℕ → ℤ → ℤ → Told → Type 0
 PositionRows n s latitude longitude = Rows n (λ (year : Year). position-rows.Row year s latitude longitude)
@@ -101,7 +103,7 @@ intake_in n s = in_order_lem n (λ (year : Year). taken year s) (λ (year : Year
 post_in_lem : (n : ℕ) (s : List ℕ) (c p : ℕ) → InOrder (PostRows n s c p) (under n (λ (year : Year). looked_up year s c p))
 unfolding looked_up
 post_in_lem n s c p =
-    judged_in_order n (λ (year : Year). reached year s c p) (λ (x : Reached). told post (reading_of x)) (λ (year : Year). post-rows.Row year s c p)
+    judged_in_order n (λ (year : Year). reached year s c p) (λ (x : Result Spot Refusal). told post (reading_of x)) (λ (year : Year). post-rows.Row year s c p)
     (λ year. post-rows.row year s c p) (λ year. post-rows.given year s c p)
 
 position_in : (n : ℕ) (s : List ℕ) (latitude longitude : ℤ) → InOrder (PositionRows n s latitude longitude) (under n (λ (year : Year). located year s latitude longitude))

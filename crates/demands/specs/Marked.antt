@@ -1,5 +1,6 @@
 -- The marked examples (rules M1 to M20): what is given, what it is, and what the definitions make of it.
-use Rattle.std.specs.Prelude.{ℕ, ◌+◌, ◌*◌, true, false, List, [], ◌∷◌, map, ℤ, pos, neg_ℤ, length, drop, replicate}
+use Rattle.std.specs.Prelude.{ℕ, ◌+◌, ◌*◌, true, false, List, [], ◌∷◌, map, ℤ, pos, neg_ℤ, length, drop, replicate, Option, Some, None}
+use Rattle.position.specs.declared.Corner.{Corner}
 use Rattle.octets.specs.Choice.{pick}
 use Rattle.answers.specs.Told.{Told}
 use Rattle.answers.specs.Told as telling
@@ -17,8 +18,6 @@ use Rattle.layout.specs.Levels.{degree}
 use Rattle.lookup.specs.declared.reach.Spot.{Spot}
 use Rattle.edit.specs.Edit.{stored_in}
 use Rattle.position.specs.Position.{south_west, nearest_column, nearest_post}
-use Rattle.position.specs.declared.Within.{Within}
-use Rattle.position.specs.declared.Within.TheVariants as within
 use Rattle.dted.specs.Grid.{from_south}
 
 -- a whole-degree latitude, north or south
@@ -81,9 +80,9 @@ cell_at level up right partial = record {
   partial = partial;
 }
 
-abbrev pub nearest_is : Facts → Within → Is
-nearest_is f (within.In k) = post (nearest_column f.grid k) (nearest_post f.grid k)
-nearest_is f within.Off = refused
+abbrev pub nearest_is : Facts → Option Corner → Is
+nearest_is f (Some k) = post (nearest_column f.grid k) (nearest_post f.grid k)
+nearest_is f None = refused
 
 -- a post of a column that begins where the bytes do
 abbrev pub spot_of : ℕ → Spot

@@ -1,5 +1,6 @@
 -- W2, N9: the item that is named is the lowest that is out of range, by the numbers of the items' table.
-use Prim.Native.Nat.{ℕ, suc, ◌-◌, ◌<◌, ◌≤◌}
+use Rattle.std.specs.Prelude.{Some}
+use Prim.Native.Nat.{ℕ, zero, suc, ◌-◌, ◌<◌, ◌≤◌}
 use native.Mathlib.Omega.{arith}
 use mathlib.Core.Path.{◌≡◌, refl, sym, ap, ◌∙◌}
 use mathlib.Core.Bool.{Bool, true, false}
@@ -14,7 +15,7 @@ use Rattle.description.specs.ItemTable.{item_number, in_order}
 use Rattle.description.specs.Items.{item_test, item_tests, first_failed, bad_item}
 use Rattle.description.specs.declared.Description.{Description}
 use Rattle.description.proofs.ItemOrder.{at_number, each_item}
-use Rattle.description.proofs.RangedItems.{Lowest, first_lowest, failed_below, first_exactly}
+use Rattle.description.proofs.RangedItems.{Lowest, failed_from, first_lowest, failed_below, first_exactly}
 
 from_1 : (i : Item) → 0 < item_number i
 from_1 i = ltb-true 0 (item_number i) (each_item (λ j. ltb 0 (item_number j)) refl i)
@@ -47,21 +48,23 @@ module _ (test : Item → Bool) where
 
   -- an item's number is answered exactly where that item is the lowest bad one
   pub named_exactly : (i : Item)
-      → (first_failed 1 (map test in_order) ≡ item_number i → LowestBad test i) × (LowestBad test i → first_failed 1 (map test in_order) ≡ item_number i)
+      → (first_failed 1 (map test in_order) ≡ Some (item_number i) → LowestBad test i) × (LowestBad test i → first_failed 1 (map test in_order) ≡ Some (item_number i))
   named_exactly i = (
     λ e.
-        let low = (first_exactly (map test in_order)).1 (item_number i - 1) (e ∙ omega (arith, from_1 i)) in (
+        let low = (first_exactly (map test in_order)).1 (item_number i - 1) (e ∙ ap Some (omega (arith, from_1 i))) in (
           sym (at_number test true i) ∙ low.0,
           λ j h. sym (at_number test true j) ∙ low.1 (item_number j - 1) (omega (arith, from_1 j)),
         ),
-    λ bad. first_lowest 1 (map test in_order) (item_number i - 1) (bad_is_lowest i bad) ∙ omega (arith, from_1 i),
+    λ bad. first_lowest 1 (map test in_order) (item_number i - 1) (bad_is_lowest i bad) ∙ ap Some (omega (arith, from_1 i)),
   )
 
-  -- and an answer that is not 0 is some item's number
-  pub some_item : (n : ℕ) → first_failed 1 (map test in_order) ≡ suc n → (i : Item) × (item_number i ≡ suc n)
-  some_item n e = (item_at n, number_at n (failed_below (map test in_order) n ((first_exactly (map test in_order)).1 n e).0))
+  -- and what is answered is some item's number
+  pub some_item : (n : ℕ) → first_failed 1 (map test in_order) ≡ Some n → (i : Item) × (item_number i ≡ n)
+  some_item zero e = absurd (omega (arith, failed_from 1 0 (map test in_order) e))
+  some_item (suc n) e = (item_at n, number_at n (failed_below (map test in_order) n ((first_exactly (map test in_order)).1 n e).0))
 
 -- W2: so `bad_item` names the item
-pub item_named : (d : Description) (i : Item) → (bad_item d ≡ item_number i → LowestBad (item_test d) i) × (LowestBad (item_test d) i → bad_item d ≡ item_number i)
+pub item_named : (d : Description) (i : Item)
+    → (bad_item d ≡ Some (item_number i) → LowestBad (item_test d) i) × (LowestBad (item_test d) i → bad_item d ≡ Some (item_number i))
 unfolding item_tests
 item_named d = named_exactly (item_test d)

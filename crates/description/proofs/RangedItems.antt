@@ -1,15 +1,15 @@
 -- A description whose items are in range, item by item, and the lowest item where one is not.
+use Rattle.std.specs.Prelude.{Option, Some, None}
+use Rattle.std.specs.Option.{option_map, MatchOption}
+use Rattle.std.specs.List.{AllWithin, HoldsAt}
 use Prim.Native.Nat.{ℕ, zero, suc, ◌+◌, ◌<◌, ◌≤◌}
-use native.Mathlib.Numerals.{add-one}
 use native.Mathlib.Omega.{arith}
-use mathlib.Core.Path.{◌≡◌, refl, sym, ◌∙◌}
+use mathlib.Core.Path.{◌≡◌, refl, sym, ap, ◌∙◌}
 use mathlib.Core.Bool.{Bool, true, false, false≢true}
 use mathlib.Core.List.{List, [], ◌∷◌}
 use lib.Dec.{leb}
-use lib.ListN.{length, get_or, drop, drop_of_length-le}
-use lib.Seq.{drop-cons}
+use lib.ListN.{length, get_or}
 use borrow.Author.Tests.{ltb-true, leb-true}
-use Rattle.octets.specs.Choice.{pick}
 use Rattle.octets.specs.Tests.{every}
 use Rattle.octets.proofs.ChoiceLaws.{both_true}
 use Rattle.rules.specs.Rules.{is_letter, is_version}
@@ -48,40 +48,32 @@ ranged_items d e =
       partial = leb-true d.partial 99 (held Partial);
     }
 
--- a search for a failed test: at the next test, and at the end
-module _ (ts : List Bool) (i : ℕ) (b : Bool) where
-  failed_step : i < length ts → first_failed (i + 1) (drop i ts) ≡ pick (get_or ts i b) (first_failed (i + 1 + 1) (drop (i + 1) ts)) (i + 1)
-  unfolding first_failed
-  failed_step h = rw (drop-cons ts i b, add-one i)
+every_true : (ts : List Bool) → ((k : ℕ) → k < length ts → get_or ts k true ≡ true) → every ts ≡ true
+every_true [] held = refl
+every_true (t ∷ ts) held = rw (held 0 (omega arith)) (every_true ts (λ k h. held (suc k) (omega arith)))
 
-  pub failed_on : i < length ts → get_or ts i b ≡ true → first_failed (i + 1) (drop i ts) ≡ first_failed (i + 1 + 1) (drop (i + 1) ts)
-  failed_on h e = failed_step h ∙ rw e
-
-  pub failed_here : i < length ts → get_or ts i b ≡ false → first_failed (i + 1) (drop i ts) ≡ i + 1
-  failed_here h e = failed_step h ∙ rw e
-
-  pub failed_done : length ts ≤ i → first_failed (i + 1) (drop i ts) ≡ 0
-  unfolding first_failed
-  failed_done h = rw (drop_of_length-le ts h)
+some_none : {n : ℕ} → Some n ≡ None → ⊥
+some_none e = let z : ◌≡◌ {A = ℕ} 0 1 = cc in omega arith
 
 -- what the first failed test is numbered
-failed_none : (n : ℕ) (ts : List Bool) → every ts ≡ true → first_failed n ts ≡ 0
+failed_none : (n : ℕ) (ts : List Bool) → every ts ≡ true → first_failed n ts ≡ None
 unfolding first_failed
 failed_none n [] e = refl
 failed_none n (true ∷ ts) e = failed_none (n + 1) ts e
 failed_none n (false ∷ ts) e = absurd (false≢true e)
 
-none_failed : (n : ℕ) (ts : List Bool) → 0 < n → first_failed n ts ≡ 0 → every ts ≡ true
+none_failed : (n : ℕ) (ts : List Bool) → first_failed n ts ≡ None → every ts ≡ true
 unfolding first_failed
-none_failed n [] h e = refl
-none_failed n (true ∷ ts) h e = none_failed (n + 1) ts (omega arith) e
-none_failed n (false ∷ ts) h e = absurd (omega arith)
+none_failed n [] e = refl
+none_failed n (true ∷ ts) e = none_failed (n + 1) ts e
+none_failed n (false ∷ ts) e = absurd (some_none e)
 
-failed_from : (m n : ℕ) (ts : List Bool) → first_failed m ts ≡ n → 0 < n → m ≤ n
+-- the number is no lower than the first test's
+pub failed_from : (m n : ℕ) (ts : List Bool) → first_failed m ts ≡ Some n → m ≤ n
 unfolding first_failed
-failed_from m n [] e h = absurd (omega arith)
-failed_from m n (true ∷ ts) e h = omega (arith, failed_from (m + 1) n ts e h)
-failed_from m n (false ∷ ts) e h = omega arith
+failed_from m n [] e = absurd (some_none (sym e))
+failed_from m n (true ∷ ts) e = omega (arith, failed_from (m + 1) n ts e)
+failed_from m n (false ∷ ts) e = let same : m ≡ n = cc in omega arith
 
 abbrev pub Lowest : List Bool → ℕ → Type 0
 Lowest ts n = (get_or ts n true ≡ false) × ((k : ℕ) → k < n → get_or ts k true ≡ true)
@@ -90,23 +82,30 @@ before : (ts : List Bool) (n : ℕ) → ((k : ℕ) → k < n → get_or ts k tru
 before ts n f zero h = refl
 before ts n f (suc k) h = f k (omega arith)
 
-lowest : (n : ℕ) (ts : List Bool) (k : ℕ) → 0 < n → first_failed n ts ≡ n + k → Lowest ts k
+lowest : (n : ℕ) (ts : List Bool) (k : ℕ) → first_failed n ts ≡ Some (n + k) → Lowest ts k
 unfolding first_failed
-lowest n [] k h e = absurd (omega arith)
-lowest n (true ∷ ts) zero h e = absurd (omega (arith, failed_from (n + 1) (n + 0) ts e (omega arith)))
-lowest n (true ∷ ts) (suc k) h e =
-    let next = lowest (n + 1) ts k (omega arith) (e ∙ omega arith) in
+lowest n [] k e = absurd (some_none (sym e))
+lowest n (true ∷ ts) zero e = absurd (omega (arith, failed_from (n + 1) (n + 0) ts e))
+lowest n (true ∷ ts) (suc k) e =
+    let next = lowest (n + 1) ts k (e ∙ ap Some (omega arith)) in
     (next.0, before ts k next.1)
-lowest n (false ∷ ts) zero h e = (refl, λ k l. absurd (omega arith))
-lowest n (false ∷ ts) (suc k) h e = absurd (omega arith)
+lowest n (false ∷ ts) zero e = (refl, λ k l. absurd (omega arith))
+lowest n (false ∷ ts) (suc k) e = let same : n ≡ n + suc k = cc in absurd (omega arith)
 
-pub first_lowest : (m : ℕ) (ts : List Bool) (n : ℕ) → Lowest ts n → first_failed m ts ≡ m + n
+pub first_lowest : (m : ℕ) (ts : List Bool) (n : ℕ) → Lowest ts n → first_failed m ts ≡ Some (m + n)
 unfolding first_failed
 first_lowest m [] n low = absurd (false≢true (sym low.0))
 first_lowest m (true ∷ ts) zero low = absurd (false≢true (sym low.0))
-first_lowest m (true ∷ ts) (suc n) low = first_lowest (m + 1) ts n (low.0, λ k h. low.1 (suc k) (omega arith)) ∙ omega arith
-first_lowest m (false ∷ ts) zero low = omega arith
+first_lowest m (true ∷ ts) (suc n) low = first_lowest (m + 1) ts n (low.0, λ k h. low.1 (suc k) (omega arith)) ∙ ap Some (omega arith)
+first_lowest m (false ∷ ts) zero low = ap Some (omega arith)
 first_lowest m (false ∷ ts) (suc n) low = absurd (false≢true (low.1 0 (omega arith)))
+
+-- what the library's search for a test that fails finds, counted from 0, and from 1 here
+pub counted : (ts : List Bool) (r : Option ℕ)
+    → MatchOption r (AllWithin (λ t. t ≡ true) ts 0 (length ts)) (λ i. (i < length ts) × HoldsAt (λ t. t ≡ false) ts i × AllWithin (λ t. t ≡ true) ts 0 i)
+    → option_map (λ (i : ℕ). i + 1) r ≡ first_failed 1 ts
+counted ts None all = sym (failed_none 1 ts (every_true ts (λ k h. all k true (omega arith) h)))
+counted ts (Some i) found = sym (first_lowest 1 ts i (found.1 true, λ k h. found.2 k true (omega arith) h) ∙ ap Some (omega arith))
 
 -- a test that fails is one of the list's
 pub failed_below : (ts : List Bool) (n : ℕ) → get_or ts n true ≡ false → n < length ts
@@ -114,15 +113,17 @@ failed_below [] n e = absurd (false≢true (sym e))
 failed_below (t ∷ ts) zero e = omega arith
 failed_below (t ∷ ts) (suc n) e = omega (arith, failed_below ts n e)
 
--- the first failed test is numbered 0 exactly where every test holds, and else it is the lowest that does not
+-- no test is named exactly where every one holds, and else it is the lowest that does not
 pub first_exactly : (ts : List Bool)
-    → ((first_failed 1 ts ≡ 0 → every ts ≡ true) × (every ts ≡ true → first_failed 1 ts ≡ 0)) × ((n : ℕ) → first_failed 1 ts ≡ suc n → Lowest ts n)
+    → ((first_failed 1 ts ≡ None → every ts ≡ true) × (every ts ≡ true → first_failed 1 ts ≡ None))
+    × ((n : ℕ) → first_failed 1 ts ≡ Some (suc n) → Lowest ts n)
 first_exactly ts = (
-  (λ e. none_failed 1 ts (omega arith) e, λ e. failed_none 1 ts e),
-  λ n e. lowest 1 ts n (omega arith) (e ∙ omega arith),
+  (λ e. none_failed 1 ts e, λ e. failed_none 1 ts e),
+  λ n e. lowest 1 ts n (e ∙ ap Some (omega arith)),
 )
 
--- `bad_item` answers 0 exactly where all items are in range, and else the lowest item that is not
+-- `bad_item` names no item exactly where all are in range, and else the lowest item that is not
 pub item_exactly : (d : Description)
-    → ((bad_item d ≡ 0 → in_range d ≡ true) × (in_range d ≡ true → bad_item d ≡ 0)) × ((n : ℕ) → bad_item d ≡ suc n → Lowest (item_tests d) n)
+    → ((bad_item d ≡ None → in_range d ≡ true) × (in_range d ≡ true → bad_item d ≡ None))
+    × ((n : ℕ) → bad_item d ≡ Some (suc n) → Lowest (item_tests d) n)
 item_exactly d = first_exactly (item_tests d)

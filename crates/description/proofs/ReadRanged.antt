@@ -1,4 +1,7 @@
 -- What good headers say is in range: a description that was read may be written.
+use Rattle.std.specs.Prelude.{Result, Ok, Err}
+use Rattle.answers.specs.declared.Refusal.{Refusal}
+use Rattle.headers.specs.declared.Facts.{Facts}
 use Prim.Native.Nat.{ℕ}
 use native.Mathlib.Omega.{arith}
 use mathlib.Core.Path.{◌≡◌, refl, sym, subst}
@@ -14,8 +17,6 @@ use Rattle.octets.proofs.ChoiceLaws.{both_true, by_test}
 use Rattle.octets.proofs.DigitLaws.{decimal_below}
 use Rattle.octets.proofs.PartLaws.{byte_part, decimal_part}
 use Rattle.headers.specs.Judged.{judged, facts_in, Follows}
-use Rattle.headers.specs.declared.JudgedHeaders.{JudgedHeaders}
-use Rattle.headers.specs.declared.JudgedHeaders.TheVariants.{Good, Refused}
 use Rattle.headers.specs.Basis.{level_at, latitude_in, longitude_in, security_in, basis_in}
 use Rattle.fields.specs.Table.{item_row, place_of}
 use Rattle.fields.specs.declared.Item.TheVariants.{Security, Edition, Version, Accuracy, Partial}
@@ -26,7 +27,6 @@ use Rattle.headers.proofs.FirstFour.{good_facts, level_below}
 use Rattle.description.specs.Items.{accuracy_ranged, item_tests, in_range}
 use Rattle.description.specs.Described.{accuracy_at, items_in, described_by, described}
 use Rattle.description.specs.declared.Description.{Description}
-use Rattle.description.specs.declared.Described.TheVariants.{As}
 
 -- four digits are at most 9,999 metres
 accuracy_ranged_lem : (s : List ℕ) (at : ℕ) → accuracy_ranged (accuracy_at s at) ≡ true
@@ -79,13 +79,13 @@ module _ (s : List ℕ) (follows : Follows s) where
         partial,
       )
 
-described_by_lem : (s : List ℕ) (x : JudgedHeaders) → judged s ≡ x → (d : Description) → described_by s x ≡ As d → in_range d ≡ true
-described_by_lem s (Good f) e d q =
+described_by_lem : (s : List ℕ) (x : Result Facts Refusal) → judged s ≡ x → (d : Description) → described_by s x ≡ Ok d → in_range d ≡ true
+described_by_lem s (Ok f) e d q =
     let same : items_in s ≡ d = cc in
     subst (λ (y : Description). in_range y ≡ true) same (read_ranged s (good_follows s f e).0)
-described_by_lem s (Refused r) e d q = let z : ◌≡◌ {A = ℕ} 0 1 = cc in absurd (omega arith)
+described_by_lem s (Err r) e d q = let z : ◌≡◌ {A = ℕ} 0 1 = cc in absurd (omega arith)
 
 -- so is what the description reader gives
-pub described_ranged : (s : List ℕ) (d : Description) → described s ≡ As d → in_range d ≡ true
+pub described_ranged : (s : List ℕ) (d : Description) → described s ≡ Ok d → in_range d ≡ true
 unfolding described
 described_ranged s d e = described_by_lem s (judged s) refl d e

@@ -1,4 +1,7 @@
 -- What headers say hangs on the bytes of their fields alone, and so on their 3,428 bytes alone.
+use Rattle.std.specs.Prelude.{Result, Ok, Err}
+use Rattle.answers.specs.declared.Refusal.{Refusal}
+use Rattle.headers.specs.declared.Facts.{Facts}
 use Prim.Native.Nat.{ℕ, ◌≤◌}
 use mathlib.Core.Path.{◌≡◌, refl, ap, ◌∙◌}
 use mathlib.Core.List.{List}
@@ -11,12 +14,9 @@ use Rattle.fields.specs.declared.Item.TheVariants.{Edition, Version, Datum, Accu
 use Rattle.fields.specs.declared.Whose.TheVariants.{Uhl, AbsoluteHorizontal, AbsoluteVertical, RelativeHorizontal, RelativeVertical}
 use Rattle.headers.specs.Basis.{basis_in}
 use Rattle.headers.specs.Judged.{judged}
-use Rattle.headers.specs.declared.JudgedHeaders.{JudgedHeaders}
-use Rattle.headers.specs.declared.JudgedHeaders.TheVariants as judgement
 use Rattle.headers.proofs.FreeBytes.{SameFields, items_same, level_alike, basis_alike, free_bytes_lem}
 use Rattle.headers.proofs.SameHeaders.{same_fields}
 use Rattle.description.specs.Described.{accuracy_at, datum_at, items_in, described_by, described}
-use Rattle.description.specs.declared.Described.TheVariants.{As}
 
 module _ (s t : List ℕ) where
   accuracy_alike : (at : ℕ) → take 4 (drop at s) ≡ take 4 (drop at t) → accuracy_at s at ≡ accuracy_at t at
@@ -54,9 +54,9 @@ module _ (s t : List ℕ) where
   pub same_items : 3428 ≤ length s → 3428 ≤ length t → take 3428 s ≡ take 3428 t → items_in s ≡ items_in t
   same_items ls lt e = items_alike (same_fields s t ls lt e)
 
-  judged_alike : SameFields s t → (j : JudgedHeaders) → described_by s j ≡ described_by t j
-  judged_alike same (judgement.Good facts) = ap As (items_alike same)
-  judged_alike same (judgement.Refused r) = refl
+  judged_alike : SameFields s t → (j : Result Facts Refusal) → described_by s j ≡ described_by t j
+  judged_alike same (Ok facts) = ap Ok (items_alike same)
+  judged_alike same (Err r) = refl
 
   -- H41 for the description: bytes that no field has do not count
   pub free_described : 3428 ≤ length s → 3428 ≤ length t → SameFields s t → described s ≡ described t

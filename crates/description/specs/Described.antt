@@ -1,5 +1,7 @@
 -- What headers say: the thirteen items of a description (rule R1).
-use Rattle.std.specs.Prelude.{ℕ, List, get_or}
+use Rattle.std.specs.Prelude.{ℕ, List, get_or, Result, Ok, Err}
+use Rattle.answers.specs.declared.Refusal.{Refusal}
+use Rattle.headers.specs.declared.Facts.{Facts}
 use Rattle.octets.specs.Choice.{pick}
 use Rattle.octets.specs.Digits.{digits_at, decimal_at}
 use Rattle.octets.specs.Texts.{ascii, has}
@@ -13,10 +15,6 @@ use Rattle.description.specs.declared.Accuracy.TheVariants.{Metres, Unknown}
 use Rattle.description.specs.declared.Datum.{Datum}
 use Rattle.description.specs.declared.Datum.TheVariants.{Msl, E96}
 use Rattle.description.specs.declared.Description.{Description}
-use Rattle.headers.specs.declared.JudgedHeaders.{JudgedHeaders}
-use Rattle.headers.specs.declared.JudgedHeaders.TheVariants as judgement
-use Rattle.description.specs.declared.Described.{Described}
-use Rattle.description.specs.declared.Described.TheVariants.{As, Refused}
 
 -- metres where four digits stand, else not available
 unfoldable pub accuracy_at : List ℕ → ℕ → Accuracy
@@ -42,9 +40,9 @@ items_in s = record {
 }
 
 -- R1: given by headers that are good, and refused as those that are not
-abbrev pub described_by : List ℕ → JudgedHeaders → Described
-described_by s (judgement.Good facts) = As (items_in s)
-described_by s (judgement.Refused r) = Refused r
+abbrev pub described_by : List ℕ → Result Facts Refusal → Result Description Refusal
+described_by s (Ok facts) = Ok (items_in s)
+described_by s (Err r) = Err r
 
-unfoldable pub described : List ℕ → Described
+unfoldable pub described : List ℕ → Result Description Refusal
 described s = described_by s (judged s)

@@ -1,5 +1,5 @@
 -- The ranges of a description's items (rule W2): the header table's.
-use Rattle.std.specs.Prelude.{ℕ, ◌+◌, Bool, true, List, [], ◌∷◌, map, leb, ltb}
+use Rattle.std.specs.Prelude.{ℕ, ◌+◌, Bool, true, List, [], ◌∷◌, map, leb, ltb, Option, Some, None}
 use Rattle.octets.specs.Choice.{pick, both}
 use Rattle.octets.specs.Tests.{every}
 use Rattle.rules.specs.Rules.{is_letter, is_version}
@@ -39,13 +39,13 @@ item_test d item.Partial = leb d.partial 99
 unfoldable pub item_tests : Description → List Bool
 item_tests d = map (item_test d) in_order
 
--- the number of the first test that fails, counted from n, or 0
-unfoldable pub first_failed : ℕ → List Bool → ℕ
-first_failed n [] = 0
-first_failed n (test ∷ tests) = pick test (first_failed (n + 1) tests) n
+-- the number of the first test that fails, counted from n, or none
+unfoldable pub first_failed : ℕ → List Bool → Option ℕ
+first_failed n [] = None
+first_failed n (test ∷ tests) = pick test (first_failed (n + 1) tests) (Some n)
 
--- W2: the lowest item out of range, or 0
-abbrev pub bad_item : Description → ℕ
+-- W2: the lowest item out of range, or none
+abbrev pub bad_item : Description → Option ℕ
 bad_item d = first_failed 1 (item_tests d)
 
 abbrev pub in_range : Description → Bool

@@ -3,14 +3,15 @@ ghost use Rattle.std.specs.Prelude.{◌≡◌, ◌+◌, ◌≤◌, length};
 ghost use Rattle.layout.specs.Grid.{header_bytes};
 ghost use Rattle.description.specs.Described.{accuracy_at, datum_at, items_in, described};
 
-use crate::{Accuracies, Accuracy, Datum, Described, Description};
+use crate::{Accuracies, Accuracy, Datum, Description};
 use angles::{EASTWARD, NORTHWARD};
-use headers::JudgedHeaders;
+use answers::Refusal;
 use headers::judge::judge;
 use headers::readings::{level_at, origin};
 use octets::digits::{are_digits, decimal};
 use octets::texts::stands;
 
+#[tactic(auto, unfolding(crate::specs::Described::accuracy_at))]
 fn accuracy_at(s: &[u8], at: usize) -> Accuracy
     requires { at + 4 ≤ length s.now }
     ensures { result ≡ accuracy_at s.now at }
@@ -22,6 +23,7 @@ fn accuracy_at(s: &[u8], at: usize) -> Accuracy
     }
 }
 
+#[tactic(auto, unfolding(crate::specs::Described::datum_at))]
 fn datum_at(s: &[u8], at: usize) -> Datum
     requires { at + 3 ≤ length s.now }
     ensures { result ≡ datum_at s.now at }
@@ -33,6 +35,7 @@ fn datum_at(s: &[u8], at: usize) -> Datum
     }
 }
 
+#[tactic(auto, unfolding(crate::specs::Described::items_in))]
 fn items_in(s: &[u8]) -> Description
     requires { header_bytes ≤ length s.now }
     ensures { result ≡ items_in s.now }
@@ -59,11 +62,9 @@ fn items_in(s: &[u8]) -> Description
 }
 
 // The description of good headers, or the refusal of any bytes that do not begin with such.
-pub fn describe(s: &[u8]) -> Described
+pub fn describe(s: &[u8]) -> Result<Description, Refusal>
     ensures { result ≡ described s.now }
 {
-    match judge(s) {
-        JudgedHeaders::Good(_) => Described::As(items_in(s)),
-        JudgedHeaders::Refused(refusal) => Described::Refused(refusal),
-    }
+    judge(s)?;
+    Ok(items_in(s))
 }

@@ -11,14 +11,12 @@ use rules::letters::{is_letter, is_version};
 pub fn accuracy_for(whose: Whose, d: Description) -> Accuracy
     ensures { result ≡ accuracy_for whose d }
 {
-    let absolute = d.absolute;
-    let relative = d.relative;
     match whose {
         Whose::Uhl => d.uhl,
-        Whose::AbsoluteHorizontal => absolute.horizontal,
-        Whose::AbsoluteVertical => absolute.vertical,
-        Whose::RelativeHorizontal => relative.horizontal,
-        Whose::RelativeVertical => relative.vertical,
+        Whose::AbsoluteHorizontal => d.absolute.horizontal,
+        Whose::AbsoluteVertical => d.absolute.vertical,
+        Whose::RelativeHorizontal => d.relative.horizontal,
+        Whose::RelativeVertical => d.relative.vertical,
     }
 }
 
@@ -34,6 +32,7 @@ fn accuracy_ranged(whose: Whose, d: Description) -> bool
 const ITEMS: usize = 13;
 
 // Whether each item is in its range, in the items' order; either datum is.
+#[tactic(auto, unfolding(crate::specs::Items::item_tests))]
 fn item_tests(d: Description) -> [bool; ITEMS]
     ensures { result ≡ item_tests d }
 {
@@ -42,7 +41,7 @@ fn item_tests(d: Description) -> [bool; ITEMS]
         d.latitude < 180,
         d.longitude < 360,
         is_letter(d.security),
-        both(1 <= d.edition, d.edition <= 99),
+        (1..=99).contains(&d.edition),
         is_version(d.version),
         true,
         accuracy_ranged(Whose::Uhl, d),
@@ -54,24 +53,16 @@ fn item_tests(d: Description) -> [bool; ITEMS]
     ]
 }
 
-// The number of the first test that fails, counted from 1, or 0 where none does.
-pub fn first_failed(tests: &[bool]) -> usize
+// The number of the first test that fails, counted from 1, or none.
+pub fn first_failed(tests: &[bool]) -> Option<usize>
     ensures { result ≡ first_failed 1 tests.now }
 {
-    let mut i = 0;
-    while i < tests.len() {
-        if !tests[i] {
-            return i + 1;
-        }
-        i += 1;
-    }
-    0
+    tests.iter().position(|test| !*test).map(|at| at + 1)
 }
 
-// The number of the lowest item that is out of range, 0 where none is.
-pub fn bad_item(d: Description) -> usize
+// The number of the lowest item that is out of range, or none.
+pub fn bad_item(d: Description) -> Option<usize>
     ensures { result ≡ bad_item d }
 {
-    let tests = item_tests(d);
-    first_failed(&tests)
+    first_failed(&item_tests(d))
 }

@@ -1,13 +1,11 @@
 // The description of a cell: the thirteen items that its headers say, read from them and ranged, and what they make due.
 #![tactic(auto)]
 
-use answers::Refusal;
-
 pub mod describe;
 pub mod facts;
 pub mod items;
 
-// An accuracy in metres, or not available.
+// An accuracy in metres, or not available. Kept: an enum of its own and no Option, as the scope has it (K6).
 #[derive(Clone, Copy)]
 pub enum Accuracy {
     Metres(u16),
@@ -41,10 +39,4 @@ pub struct Description {
     pub absolute: Accuracies,
     pub relative: Accuracies,
     pub partial: usize,
-}
-
-#[derive(Clone, Copy)]
-pub enum Described {
-    As(Description),
-    Refused(Refusal),
 }

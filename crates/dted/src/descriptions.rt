@@ -4,7 +4,6 @@ ghost use Rattle.host_answers.specs.Packed.{packed};
 ghost use Rattle.description.specs.Described.{described};
 ghost use Rattle.dted.specs.Description.{said_of_described, items_after};
 
-use description::Described;
 use host_items::items::ITEMS;
 use host_items::numbers::put_numbers;
 
@@ -13,10 +12,10 @@ pub fn dted_describe(cell: &[u8], items: &mut [i64; ITEMS]) -> u64
     ensures lent { items.new ≡ items_after (described cell.now) items.old }
 {
     match description::describe::describe(cell) {
-        Described::As(description) => {
+        Ok(description) => {
             put_numbers(items, description);
             0
         }
-        Described::Refused(refusal) => host_answers::refusal(refusal),
+        Err(refusal) => host_answers::refusal(refusal),
     }
 }

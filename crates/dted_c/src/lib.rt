@@ -1,4 +1,5 @@
 // The library as a C host links it: include/dted.h says what each call is for. Each is the call of `dted` of its name, with that call's clauses.
+// Kept: a call beside each call of `dted`, since no crate can stand on one that is made into an archive, and theorems stand on those.
 #![tactic(auto)]
 
 ghost use Rattle.std.specs.Prelude.{◌≡◌};

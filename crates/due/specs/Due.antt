@@ -57,10 +57,10 @@ number_of number.Posts g = g.posts
 
 -- the origin once more, as DDMMSS.SH and DDDMMSS.SH, and an edge at a corner, as DDMMSSH and DDDMMSSH
 abbrev pub again : Axis → ℕ → ℕ → DueAngle
-again axis digits angle = record { axis = axis; angle = angle; digits = digits; tenths = true; corner = false }
+again axis digits angle = record { axis = axis; angle = angle; digits = digits; corner = false }
 
 abbrev pub corner : Axis → ℕ → ℕ → DueAngle
-corner axis digits angle = record { axis = axis; angle = angle; digits = digits; tenths = false; corner = true }
+corner axis digits angle = record { axis = axis; angle = angle; digits = digits; corner = true }
 
 -- which angle is due; an eastern edge at 180 is 180 E, a western one 180 W, and 0 is N and E
 abbrev pub due_angle : Angle → Basis → DueAngle
@@ -73,7 +73,7 @@ due_angle angle.East b = corner eastward 3 (b.longitude + 1)
 
 -- and its bytes
 abbrev pub form_of : DueAngle → Form
-form_of b = form b.digits (pick b.tenths (ascii "0000.0") (ascii "0000"))
+form_of b = form b.digits (pick b.corner (ascii "0000") (ascii "0000.0"))
 
 abbrev pub due_angle_text : DueAngle → List ℕ
 due_angle_text b = angle_text (form_of b) b.axis b.angle

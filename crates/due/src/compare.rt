@@ -11,10 +11,10 @@ use angles::may_carry;
 use fields::{Angle, Due};
 use octets::texts::differs;
 
-// The longest text that is due: a longitude with seconds and their tenth.
+// The longest text that is due: a longitude with seconds and their tenth. Kept: an array, since memory is fixed.
 const WIDEST: usize = 10;
 
-// The index of the first byte that differs from what is due; how many there are, where none does.
+// The index of the first byte that differs from what is due; how many there are, where none does. Kept: as `differs`.
 pub fn first_wrong(due: Due, basis: Basis, field: &[u8]) -> usize
     requires { DueField due basis field.now }
     ensures { (result ≡ differ field.now 0 (due_text due basis)) × (result ≤ length field.now) }
@@ -25,7 +25,8 @@ pub fn first_wrong(due: Due, basis: Basis, field: &[u8]) -> usize
     differs(field, 0, &want[0..n])
 }
 
-// Whether a letter may end an angle where another is due: at a corner that H42 leaves free.
+// Whether a letter may end an angle where another is due: at a corner that H42 leaves free. Kept: beside `corner_free` of `faults`, which asks
+// of no letter.
 fn corner_may_end(angle: Angle, basis: Basis, last: u8) -> bool
     requires { OriginInRange basis.latitude basis.longitude }
     ensures { result ≡ may_end (Due.Angle angle) basis last }
@@ -41,10 +42,7 @@ pub fn may_end(due: Due, basis: Basis, last: u8) -> bool
     ensures { result ≡ may_end due basis last }
 {
     match due {
-        Due::Text(_) => false,
-        Due::Number(_) => false,
         Due::Angle(angle) => corner_may_end(angle, basis, last),
-        Due::Letter => false,
-        Due::Series => false,
+        Due::Text(_) | Due::Number(_) | Due::Letter | Due::Series => false,
     }
 }

@@ -1,23 +1,33 @@
 // Angles that the origin makes due: which one stands in a field, and how it is written there.
 ghost use Rattle.std.specs.Prelude.{◌≡◌};
-ghost use Rattle.due.specs.Due.{again, corner, due_angle};
+ghost use Rattle.due.specs.Due.{again, corner, due_angle, form_of};
 ghost use Rattle.due.specs.Asked.{OriginInRange};
 
 use crate::Basis;
+use crate::texts::{MMSS, MMSS_S};
 use angles::{Axis, EASTWARD, NORTHWARD};
 use fields::Angle;
 
-// An angle, the digits of its degrees, whether its seconds have a tenth, and whether it is a corner's.
+// An angle, the digits of its degrees, and whether it is a corner's, whose seconds have no tenth.
 #[derive(Clone, Copy)]
 pub struct DueAngle {
     pub axis: Axis,
     pub angle: usize,
     pub digits: usize,
-    pub tenths: bool,
     pub corner: bool,
 }
 
+impl DueAngle {
+    // The zeros between its degrees and its letter.
+    pub fn zeros(self) -> &'static [u8]
+        ensures { result.now ≡ (form_of self).zeros }
+    {
+        if self.corner { &MMSS } else { &MMSS_S }
+    }
+}
+
 // The origin, once more.
+// Kept: `again` and `corner` are the definition's two words (specs/Due.antt), and a flag at each call would say less.
 fn again(axis: Axis, digits: usize, angle: usize) -> DueAngle
     ensures { result ≡ again axis digits angle }
 {
@@ -25,7 +35,6 @@ fn again(axis: Axis, digits: usize, angle: usize) -> DueAngle
         axis,
         angle,
         digits,
-        tenths: true,
         corner: false,
     }
 }
@@ -38,12 +47,12 @@ fn corner(axis: Axis, digits: usize, angle: usize) -> DueAngle
         axis,
         angle,
         digits,
-        tenths: false,
         corner: true,
     }
 }
 
 // The angle that is due in a field.
+// Kept: the range is asked, and no invariant of `Basis`: `headers:Basis.basis_in` makes one of any bytes.
 pub fn due_angle(angle: Angle, basis: Basis) -> DueAngle
     requires { OriginInRange basis.latitude basis.longitude }
     ensures { result ≡ due_angle angle basis }

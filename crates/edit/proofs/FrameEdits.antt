@@ -1,4 +1,6 @@
 -- An edit under any frame is one word set: done exactly where the call takes, and nothing else is changed. No word about headers.
+use Rattle.std.specs.Prelude.{Result, Ok, Err, ⊤}
+use Rattle.answers.specs.declared.Refusal.{Refusal}
 use Prim.Native.Nat.{ℕ, ◌+◌, ◌*◌, ◌<◌}
 use native.Mathlib.Omega.{arith}
 use mathlib.Core.Path.{◌≡◌, refl, sym, ap, ◌∙◌}
@@ -14,8 +16,6 @@ use Rattle.octets.specs.Pastes.{pasted}
 use Rattle.octets.proofs.ChoiceLaws.{both_true, by_test}
 use Rattle.octets.proofs.JoinedLaws.{length_part, set_in_part}
 use Rattle.answers.specs.declared.Refusal.TheVariants.{OffGrid, Height}
-use Rattle.answers.specs.declared.Outcome.{Outcome}
-use Rattle.answers.specs.declared.Outcome.TheVariants.{Done, Refused}
 use Rattle.layout.specs.Ranges.{Ranged}
 use Rattle.layout.specs.declared.Frame.{Frame}
 use Rattle.posts.specs.Heights.{height_allowed, word_of}
@@ -29,8 +29,6 @@ use Rattle.cells.proofs.ColumnParts.{column_there, column_replaced}
 use Rattle.cells.proofs.FramedWords.{Made, made_framed, set_made}
 use Rattle.lookup.specs.Reach.{spot_in}
 use Rattle.lookup.specs.declared.reach.Spot.{Spot}
-use Rattle.lookup.specs.declared.reach.Reached.{Reached}
-use Rattle.lookup.specs.declared.reach.Reached.TheVariants as reach
 use Rattle.lookup.proofs.PostReached.{framed_reached}
 use Rattle.edit.specs.Edit.{judged_at, stored_in, edited_at, judged_in, edited_in}
 use Rattle.edit.specs.Sequence.{Call, takes, words_with}
@@ -48,17 +46,17 @@ taken f e t =
     record { column = ltb-true _ _ on.0; post = ltb-true _ _ at.0; held = at.1 }
 
 -- done is answered exactly where the test passes
-abbrev pub DoneExactly : Outcome → Bool → Type 0
-DoneExactly x t = (x ≡ Done → t ≡ true) × (t ≡ true → x ≡ Done)
+abbrev pub DoneExactly : Result ⊤ Refusal → Bool → Type 0
+DoneExactly x t = (x ≡ Ok tt → t ≡ true) × (t ≡ true → x ≡ Ok tt)
 
-held_done : (h : Bool) → DoneExactly (pick h Done (Refused (Height 0))) h
+held_done : (h : Bool) → DoneExactly (pick h (Ok tt) (Err (Height 0))) h
 held_done true = (λ e. refl, λ e. refl)
 held_done false = (λ e. cc, λ e. cc)
 
 -- by whether both numbers are on the grid
 module _ (s : List ℕ) (spot : Spot) (p : ℕ) (z : ℤ) where
-  abbrev found : Bool → Bool → Reached
-  found a b = pick (both a b) (reach.At spot) (reach.Refused OffGrid)
+  abbrev found : Bool → Bool → Result Spot Refusal
+  found a b = pick (both a b) (Ok spot) (Err OffGrid)
 
   left_by_lem : (a b : Bool) → edited_at (found a b) s p z ≡ pick (both a (both b (height_allowed spot.voids z))) (stored_in s spot p z) s
   left_by_lem true true = refl

@@ -1,4 +1,6 @@
 -- E3: of all bytes an edit changes at most six, the two of its post and the four of its column's checksum.
+use Rattle.std.specs.Prelude.{Result, Ok, Err, ⊤}
+use Rattle.answers.specs.declared.Refusal.{Refusal}
 use Prim.Native.Nat.{ℕ, ◌+◌, ◌-◌, ◌≤◌, ◌<◌}
 use native.Mathlib.Omega.{arith}
 use mathlib.Core.Path.{◌≡◌, refl, sym, ap, ◌∙◌}
@@ -18,8 +20,6 @@ use Rattle.column_edit.proofs.StoredBytes.{NoneOf, paste_leaves, length_stored, 
 use Rattle.cells.specs.Cell.{start_of}
 use Rattle.lookup.specs.Reach.{spot_in}
 use Rattle.lookup.specs.declared.reach.Spot.{Spot}
-use Rattle.answers.specs.declared.Outcome.{Outcome}
-use Rattle.answers.specs.declared.Outcome.TheVariants.{Done, Refused}
 use Rattle.years.specs.declared.Year.{Year}
 use Rattle.edit.specs.Edit.{judged_edit, stored_in, edited}
 use Rattle.edit.proofs.SpotReached.{SpotOf, part_at, spot_of}
@@ -74,15 +74,15 @@ module _ (year : Year) (s : List ℕ) (c p : ℕ) (z : ℤ) where
   abbrev spot : Spot
   spot = spot_in s (frame_in year s) c p
 
-  reached_spot : judged_edit year s c p z ≡ Done → SpotOf s c p spot
+  reached_spot : judged_edit year s c p z ≡ Ok tt → SpotOf s c p spot
   reached_spot e = spot_of year s c p ((accepted_exactly year s c p z).0 e).0
 
-  by_answer : (x : Outcome) → judged_edit year s c p z ≡ x
+  by_answer : (x : Result ⊤ Refusal) → judged_edit year s c p z ≡ x
       → (length (edited year s c p z) ≡ length s) × ((i : ℕ) → NoneOf (post_at s c p) 2 i → NoneOf (checksum_at s c) 4 i → get_or (edited year s c p z) i 0 ≡ get_or s i 0)
-  by_answer Done e =
+  by_answer (Ok tt) e =
       let at = reached_spot e in
       rw (done_leaves year s c p z e) (length_stored_in s c p z spot at, stored_in_leaves s c p z spot at)
-  by_answer (Refused r) e = rw (refused_leaves year s c p z r e) (refl, λ i apart beyond. refl)
+  by_answer (Err r) e = rw (refused_leaves year s c p z r e) (refl, λ i apart beyond. refl)
 
   pub same_length : length (edited year s c p z) ≡ length s
   same_length = (by_answer (judged_edit year s c p z) refl).0

@@ -1,4 +1,6 @@
 -- What a reached post is: its column there whole and good; and that column as it is lent, and as it comes back.
+use Rattle.std.specs.Prelude.{Result, Ok}
+use Rattle.answers.specs.declared.Refusal.{Refusal}
 use Prim.Native.Nat.{ℕ, ◌+◌, ◌-◌, ◌≤◌, ◌<◌}
 use native.Mathlib.Omega.{arith}
 use mathlib.Core.Path.{◌≡◌, ap, subst, ◌∙◌}
@@ -22,8 +24,6 @@ use Rattle.cells.specs.Cell.{start_of}
 use Rattle.cells.proofs.ColumnPlaces.{start_small}
 use Rattle.lookup.specs.Reach.{spot_in, reached}
 use Rattle.lookup.specs.declared.reach.Spot.{Spot}
-use Rattle.lookup.specs.declared.reach.Reached.{Reached}
-use Rattle.lookup.specs.declared.reach.Reached.TheVariants.{At}
 use Rattle.lookup.proofs.ReachedExactly.{Row, bad_headers, off, cut, column, good, row}
 use Rattle.edit.specs.Edit.{stored_in}
 use Rattle.edit.proofs.EditExactly.{Reachable}
@@ -55,7 +55,7 @@ module _ (year : Year) (s : List ℕ) (c p : ℕ) where
         column = subst (λ (n : ℕ). GoodColumn (take n (drop (start_of g c) s)) c g.posts (frame_in year s).voids) ranged.column r.column;
       }
 
-  by_row : (x : Reached) → Row year s c p x → (spot : Spot) → x ≡ At spot → SpotOf s c p spot
+  by_row : (x : Result Spot Refusal) → Row year s c p x → (spot : Spot) → x ≡ Ok spot → SpotOf s c p spot
   by_row _ (bad_headers r j) spot e = let z : ◌≡◌ {A = ℕ} 0 1 = cc in absurd (omega arith)
   by_row _ (off h away) spot e = let z : ◌≡◌ {A = ℕ} 0 1 = cc in absurd (omega arith)
   by_row _ (cut o short) spot e = let z : ◌≡◌ {A = ℕ} 0 1 = cc in absurd (omega arith)
@@ -63,7 +63,7 @@ module _ (year : Year) (s : List ℕ) (c p : ℕ) where
   by_row _ (good o whole g) spot e =
       let same : spot_in s (frame_in year s) c p ≡ spot = cc in subst (SpotOf s c p) same (spot_of (record { on = o; whole = whole; column = g }))
 
-  pub spot_reached : (spot : Spot) → reached year s c p ≡ At spot → SpotOf s c p spot
+  pub spot_reached : (spot : Spot) → reached year s c p ≡ Ok spot → SpotOf s c p spot
   spot_reached spot e = by_row (reached year s c p) (row year s c p) spot e
 
 -- the column, lent as the part from its start to its end

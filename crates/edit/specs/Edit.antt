@@ -1,11 +1,10 @@
 -- The edit of one post under a year (rules E1 to E3): what a lookup judges in its order, then 11.
-use Rattle.std.specs.Prelude.{ℕ, List, ℤ, take, drop}
+use Rattle.std.specs.Prelude.{ℕ, List, ℤ, take, drop, Result, Ok, Err, ⊤}
+use Rattle.answers.specs.declared.Refusal.{Refusal}
 use Rattle.octets.specs.Choice.{pick}
 use Rattle.octets.specs.Pastes.{pasted}
 use Rattle.answers.specs.Told.{Told, told, act}
 use Rattle.answers.specs.declared.Refusal.TheVariants.{Height}
-use Rattle.answers.specs.declared.Outcome.{Outcome}
-use Rattle.answers.specs.declared.Outcome.TheVariants.{Done, Refused}
 use Rattle.years.specs.declared.Year.{Year}
 use Rattle.layout.specs.Levels.{column_bytes}
 use Rattle.layout.specs.declared.Frame.{Frame}
@@ -13,28 +12,26 @@ use Rattle.posts.specs.Heights.{height_allowed, word_of}
 use Rattle.column_edit.specs.Stored.{stored}
 use Rattle.lookup.specs.Reach.{reached_in, reached}
 use Rattle.lookup.specs.declared.reach.Spot.{Spot}
-use Rattle.lookup.specs.declared.reach.Reached.{Reached}
-use Rattle.lookup.specs.declared.reach.Reached.TheVariants as reach
 
 -- N11: a reached post may be given the height, or not
-abbrev pub judged_at : Reached → ℤ → Outcome
-judged_at (reach.At spot) z = pick (height_allowed spot.voids z) Done (Refused (Height 0))
-judged_at (reach.Refused r) z = Refused r
+abbrev pub judged_at : Result Spot Refusal → ℤ → Result ⊤ Refusal
+judged_at (Ok spot) z = pick (height_allowed spot.voids z) (Ok tt) (Err (Height 0))
+judged_at (Err r) z = Err r
 
 -- E1: the order of the call
-unfoldable pub judged_edit : Year → List ℕ → ℕ → ℕ → ℤ → Outcome
+unfoldable pub judged_edit : Year → List ℕ → ℕ → ℕ → ℤ → Result ⊤ Refusal
 judged_edit year s c p z = judged_at (reached year s c p) z
 
 -- E2: post p of the spot's column stored anew, in that column's part of the cell
 unfoldable pub stored_in : List ℕ → Spot → ℕ → ℤ → List ℕ
 stored_in s spot p z = pasted s spot.start (stored (take (column_bytes spot.posts) (drop spot.start s)) spot.posts p (word_of z))
 
-abbrev pub edited_at : Reached → List ℕ → ℕ → ℤ → List ℕ
-edited_at (reach.At spot) s p z = pick (height_allowed spot.voids z) (stored_in s spot p z) s
-edited_at (reach.Refused r) s p z = s
+abbrev pub edited_at : Result Spot Refusal → List ℕ → ℕ → ℤ → List ℕ
+edited_at (Ok spot) s p z = pick (height_allowed spot.voids z) (stored_in s spot p z) s
+edited_at (Err r) s p z = s
 
 -- the same of a post under a frame, with no word about headers
-abbrev pub judged_in : List ℕ → Frame → ℕ → ℕ → ℤ → Outcome
+abbrev pub judged_in : List ℕ → Frame → ℕ → ℕ → ℤ → Result ⊤ Refusal
 judged_in s f c p z = judged_at (reached_in s f c p) z
 
 abbrev pub edited_in : List ℕ → Frame → ℕ → ℕ → ℤ → List ℕ

@@ -10,13 +10,14 @@ use angles::{Axis, angle, either_letter, is_origin, is_side};
 use due::NOTHING;
 use due::due_angles::{DueAngle, due_angle};
 use due::numbers::number;
-use due::texts::{DTED, MMSS, MMSS_S};
+use due::texts::DTED;
 use fields::{Angle, Number};
 use octets::choices::{both, either};
 use octets::digits::{are_digits, decimal};
 use octets::texts::stands;
 
-// Whether a zone of this level has this number.
+// Whether a zone of this level has this number. Kept: a loop: with `any` over the zones the check finds no proof, as it does here.
+#[tactic(auto, using(layout::proofs::NearEdges::last_below, octets::proofs::TestLaws::some_found), unfolding(crate::specs::Ever::in_zones))]
 fn in_zones(name: Number, level: usize, v: usize) -> bool
     requires { level < 3 }
     ensures { result ≡ in_zones name level v }
@@ -31,6 +32,7 @@ fn in_zones(name: Number, level: usize, v: usize) -> bool
 }
 
 // Whether the level and zone table has this number.
+#[tactic(auto, unfolding(crate::specs::Ever::in_table))]
 fn in_table(name: Number, v: usize) -> bool
     ensures { result ≡ in_table name v }
 {
@@ -82,15 +84,14 @@ fn is_form(due: DueAngle, field: &[u8]) -> bool
     requires { AngleField due field.now }
     ensures { result ≡ is_angle (form_of due) field.now }
 {
-    let digits = due.digits;
-    let degrees = are_digits(field, 0, digits);
-    if due.tenths {
-        return both(degrees, stands(field, digits, &MMSS_S));
-    }
-    both(degrees, stands(field, digits, &MMSS))
+    both(
+        are_digits(field, 0, due.digits),
+        stands(field, due.digits, due.zeros()),
+    )
 }
 
 // An origin of some cell, or an edge.
+#[tactic(auto, unfolding(crate::specs::Ever::is_some_angle))]
 pub fn is_angle(name: Angle, field: &[u8]) -> bool
     requires { length field.now ≡ angle_width name }
     ensures { result ≡ is_some_angle name field.now }
@@ -107,5 +108,5 @@ pub fn is_series(field: &[u8]) -> bool
     ensures { result ≡ is_some_series field.now }
 {
     let digit = field[4];
-    both(stands(field, 0, &DTED), both(b'0' <= digit, digit <= b'2'))
+    both(stands(field, 0, &DTED), (b'0'..=b'2').contains(&digit))
 }

@@ -53,6 +53,7 @@ fn due_fault(due: Due, place: usize, field: &[u8]) -> Refusal
 }
 
 // The refusal of a field at this offset that breaks its rule.
+#[tactic(auto, unfolding(crate::specs::Fault::fault))]
 pub fn broken(kind: Kind, basis: Basis, at: usize, field: &[u8]) -> Refusal
     requires { BrokenField kind basis at field.now }
     ensures { result ≡ fault kind basis at field.now }

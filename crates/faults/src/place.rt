@@ -29,11 +29,8 @@ fn letter_free(due: Due, basis: Basis) -> bool
     ensures { result ≡ letter_free due basis }
 {
     match due {
-        Due::Text(_) => false,
-        Due::Number(_) => false,
         Due::Angle(angle) => corner_free(angle, basis),
-        Due::Letter => false,
-        Due::Series => false,
+        Due::Text(_) | Due::Number(_) | Due::Letter | Due::Series => false,
     }
 }
 

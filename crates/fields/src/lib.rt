@@ -1,8 +1,8 @@
 // The fields of the headers, row by row in the order of judging: headers are judged and written by them.
 #![tactic(auto)]
 
-ghost use Rattle.std.specs.Prelude.{◌≡◌, ◌+◌, ◌<◌};
-ghost use Rattle.fields.specs.Table.{field_at};
+ghost use Rattle.std.specs.Prelude.{◌≡◌, ◌+◌, ◌<◌, ◌≤◌, length};
+ghost use Rattle.fields.specs.Table.{bytes_in, field_at};
 
 pub mod free;
 pub mod places;
@@ -85,10 +85,20 @@ pub enum Kind {
 #[derive(Clone, Copy)]
 pub struct Field(pub usize, pub usize, pub Kind);
 
+impl Field {
+    // Its bytes.
+    pub fn bytes(self, s: &[u8]) -> &[u8]
+        requires { self.0 + self.1 ≤ length s.now }
+        ensures { result.now ≡ bytes_in s.now self }
+    {
+        let Field(at, len, _) = self;
+        &s[at..at + len]
+    }
+}
+
 pub const FIELDS: usize = 40;
 
-// The fields of each record in the order of judging. A match, and no table: a table would be laid out anew at each call.
-// Those of the UHL.
+// The fields of the UHL in the order of judging. Kept: a match, and no table, since a table would be laid out anew at each call.
 fn uhl(i: usize) -> Field
     requires { i < 10 }
     ensures { result ≡ field_at i }

@@ -1,5 +1,6 @@
 -- N21 to N23 in the scope's own words. Of the first field that breaks its rule, 21 is told exactly where no accepted header has these bytes in
 -- that field; 23 exactly where one has, and the field holds an interval or a count; 22 exactly where one has, and it does not.
+use Rattle.std.specs.Prelude.{Err}
 use Prim.Native.Nat.{ℕ, ◌+◌, ◌≤◌}
 use native.Mathlib.Omega.{arith}
 use mathlib.Core.Path.{◌≡◌, refl, sym, ap, ◌∙◌}
@@ -23,7 +24,6 @@ use Rattle.faults.specs.Fault.{due_fault, kind_fault, fault}
 use Rattle.faults.proofs.Somewhere.{Decided, nowhere, off_table, contradicts, decided}
 use Rattle.headers.specs.Basis.{basis_in}
 use Rattle.headers.specs.Judged.{broken, judged, Stands, Impossible}
-use Rattle.headers.specs.declared.JudgedHeaders.TheVariants.{Refused}
 use Rattle.headers.proofs.Exactly.{First, broken_first, good_follows}
 use Rattle.headers.proofs.BrokenPlace.{PlaceIn, place_told_lem}
 use Rattle.headers.proofs.TableRows.{row, bytes_long}
@@ -126,7 +126,7 @@ pub record HeadersTold (s : List ℕ) (r : Refusal) : Type 0 where
   pub place : PlaceIn s row (place_told (numbered r))
   pub number : NumberExactly (field_at row) (bytes_in s (field_at row)) (number_told (numbered r))
 
-pub headers_told : (s : List ℕ) (r : Refusal) → 3428 ≤ length s → judged s ≡ Refused r → HeadersTold s r
+pub headers_told : (s : List ℕ) (r : Refusal) → 3428 ≤ length s → judged s ≡ Err r → HeadersTold s r
 headers_told s r long e =
     let b = broken_first s r long e in
     let i = b.row in

@@ -3,15 +3,12 @@ use Prim.Native.Nat.{ℕ, ◌+◌, ◌-◌, ◌<◌, ◌≤◌}
 use native.Mathlib.Numerals.{add-one}
 use native.Mathlib.Omega.{arith}
 use mathlib.Core.Path.{◌≡◌, sym, ap, ◌∙◌}
-use mathlib.Core.Bool.{Bool}
 use mathlib.Core.List.{List}
-use lib.Dec.{leb, leb→le}
 use lib.ListN.{length, get_or, drop, replicate, drop_of_length-le}
 use lib.Seq.{drop-cons}
 use borrow.Rule.Slice.PartMut.{put_mid}
 use Rattle.octets.specs.Pastes.{pasted}
 use Rattle.octets.proofs.PasteLaws.{length_paste, part_back}
-use Rattle.octets.proofs.TestLaws.{below}
 use Rattle.layout.specs.declared.Grid.{Grid}
 use Rattle.due.specs.Asked.{OriginInRange}
 use Rattle.due.specs.declared.Basis.{Basis}
@@ -37,13 +34,6 @@ origin_of d r = r
 
 abbrev pub area_at : ℕ → Area
 area_at i = get_or areas i (record { 0 = 0; 1 = 0 })
-
-area_fits : ℕ → Bool
-area_fits i = leb ((area_at i).0 + (area_at i).1) 3428
-
-pub area_fits_lem : (i : ℕ) → i < 4 → (area_at i).0 + (area_at i).1 ≤ 3428
-unfolding area_fits
-area_fits_lem i h = leb→le ((area_at i).0 + (area_at i).1) 3428 (below area_fits 4 tt i h)
 
 module _ (s : List ℕ) (d : Description) (i : ℕ) where
   pub fields_on : i < 40 → with_fields s d (drop i fields) ≡ with_fields (pasted s (field_at i).0 (text_for (field_at i).2 d)) d (drop (i + 1) fields)

@@ -1,4 +1,5 @@
 -- Headers written from a description in range are judged good, whatever follows them, and describe what they were written from.
+use Rattle.std.specs.Prelude.{Ok}
 use Prim.Native.Nat.{ℕ, ◌≤◌}
 use native.Mathlib.Omega.{arith}
 use mathlib.Core.Path.{◌≡◌, sym, ap, ◌∙◌}
@@ -13,8 +14,6 @@ use Rattle.description.specs.Described.{items_in, described_by, described}
 use Rattle.description.specs.Facts.{basis_of}
 use Rattle.header_writer.specs.Written.{headers_for}
 use Rattle.description.specs.declared.Description.{Description}
-use Rattle.headers.specs.declared.JudgedHeaders.TheVariants.{Good}
-use Rattle.description.specs.declared.Described.TheVariants.{As}
 use Rattle.header_writer.proofs.BasisBack.{basis_back}
 use Rattle.headers.proofs.Exactly.{follows_good}
 use Rattle.header_writer.proofs.RoundTrip.{written_follows, written_read}
@@ -34,7 +33,7 @@ module _ (d : Description) (rest : List ℕ) (e : in_range d ≡ true) where
       let n = length_headers d in
       take_at (headers_for d) rest 3428 n ∙ sym (take_all 3428 (headers_for d) (omega arith))
 
-  pub written_good : judged (headers_for d ++ rest) ≡ Good (facts_in (headers_for d))
+  pub written_good : judged (headers_for d ++ rest) ≡ Ok (facts_in (headers_for d))
   written_good = same_headers (headers_for d ++ rest) (headers_for d) long alone front ∙ follows_good (headers_for d) (written_follows d e)
 
   pub written_basis : basis_in (headers_for d ++ rest) ≡ basis_of d
@@ -43,6 +42,6 @@ module _ (d : Description) (rest : List ℕ) (e : in_range d ≡ true) where
   pub written_items : items_in (headers_for d ++ rest) ≡ d
   written_items = same_items (headers_for d ++ rest) (headers_for d) long alone front ∙ written_read d e
 
-  pub written_described : described (headers_for d ++ rest) ≡ As d
+  pub written_described : described (headers_for d ++ rest) ≡ Ok d
   unfolding described
-  written_described = ap (described_by (headers_for d ++ rest)) written_good ∙ ap As written_items
+  written_described = ap (described_by (headers_for d ++ rest)) written_good ∙ ap Ok written_items

@@ -19,7 +19,7 @@ fn put_accuracy(field: &mut [u8], accuracy: Accuracy)
     ensures { field.new ≡ accuracy_text accuracy }
 {
     match accuracy {
-        Accuracy::Metres(metres) => put_number(field, 4, metres as usize),
+        Accuracy::Metres(metres) => put_number(field, 4, usize::from(metres)),
         Accuracy::Unknown => put(field, &due::texts::NOT_AVAILABLE),
     }
 }
@@ -34,6 +34,7 @@ fn put_datum(field: &mut [u8], datum: Datum)
     }
 }
 
+#[tactic(auto, using(octets::proofs::PutLaws::put_byte))]
 fn put_security(field: &mut [u8], letter: u8)
     requires { length field.old ≡ 3 }
     ensures { field.new ≡ letter ∷ ascii "  " }
@@ -42,7 +43,8 @@ fn put_security(field: &mut [u8], letter: u8)
     paste(field, 1, &due::texts::BLANKS);
 }
 
-// An item of the description, in its field.
+// An item of the description, in its field. Kept: description and basis by themselves, since `item_text` has the first alone.
+#[tactic(auto, unfolding(crate::specs::Written::item_text))]
 fn put_item(field: &mut [u8], item: Item, d: Description, basis: Basis)
     requires { ToFill (item_width item) field.old d basis }
     ensures { field.new ≡ item_text item d }
@@ -64,6 +66,7 @@ fn put_item(field: &mut [u8], item: Item, d: Description, basis: Basis)
 }
 
 // What a description makes of a field of this kind.
+#[tactic(auto, using(crate::proofs::TableTurns::origin_of))]
 pub fn put_field(field: &mut [u8], kind: Kind, d: Description, basis: Basis)
     requires { ToFill (width_of kind) field.old d basis }
     ensures { field.new ≡ text_for kind d }

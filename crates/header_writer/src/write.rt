@@ -10,7 +10,7 @@ use crate::put::put_field;
 use description::Description;
 use due::Basis;
 use fields::free::{AREAS, DATE};
-use fields::{FIELDS, row};
+use fields::{FIELDS, Field, row};
 use layout::{Grid, HEADER_BYTES};
 use octets::pastes::fill;
 
@@ -21,11 +21,8 @@ fn put_areas(head: &mut [u8])
     requires { length head.old ≡ header_bytes }
     ensures { head.new ≡ with_areas head.old areas }
 {
-    let mut i = 0;
-    while i < 4 {
-        let area = AREAS[i];
+    for area in AREAS {
         fill(head, area.0, area.1, b'0');
-        i += 1;
     }
 }
 
@@ -43,16 +40,13 @@ fn put_fields(head: &mut [u8], d: Description, basis: Basis)
     requires { ToFill header_bytes head.old d basis }
     ensures { head.new ≡ with_fields head.old d fields }
 {
-    let mut i = 0;
-    while i < FIELDS {
-        let field = row(i);
-        let at = field.0;
-        let kind = field.2;
-        put_field(&mut head[at..at + field.1], kind, d, basis);
-        i += 1;
+    for i in 0..FIELDS {
+        let Field(at, len, kind) = row(i);
+        put_field(&mut head[at..at + len], kind, d, basis);
     }
 }
 
+#[tactic(auto, unfolding(crate::specs::Written::headers_for))]
 fn put_all(head: &mut [u8], d: Description, basis: Basis)
     requires { ToFill header_bytes head.old d basis }
     ensures { head.new ≡ headers_for d }

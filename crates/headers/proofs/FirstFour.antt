@@ -1,4 +1,5 @@
 -- The first four rules need nothing due, and fix a level, an origin and a grid within their ranges.
+use Rattle.std.specs.Prelude.{Ok}
 use Prim.Native.Nat.{ℕ, zero, suc, ◌<◌}
 use native.Mathlib.Omega.{arith}
 use mathlib.Core.Path.{◌≡◌, refl}
@@ -31,7 +32,6 @@ use Rattle.angles.specs.declared.Axis.{Axis}
 use Rattle.angles.proofs.AngleTexts.{origin_below}
 use Rattle.due.specs.declared.Basis.{Basis}
 use Rattle.headers.specs.declared.Facts.{Facts}
-use Rattle.headers.specs.declared.JudgedHeaders.TheVariants.{Good}
 use Rattle.layout.proofs.NearEdges.{edge_below}
 use Rattle.headers.proofs.Exactly.{good_follows}
 
@@ -136,7 +136,7 @@ facts_within s f = record {
   laid = refl;
 }
 
-pub good_facts : (s : List ℕ) (f : Facts) → judged s ≡ Good f → GoodFacts s f
+pub good_facts : (s : List ℕ) (f : Facts) → judged s ≡ Ok f → GoodFacts s f
 good_facts s f e =
     let g = good_follows s f e in
     rw g.1 (facts_within s (follows_fixed s g.0))

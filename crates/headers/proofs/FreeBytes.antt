@@ -1,15 +1,14 @@
 -- Bytes of the headers that no field has are free (rule H41): what is judged hangs on the bytes of the forty fields alone.
+use Rattle.std.specs.Prelude.{Option, Some, None, Ok, Err}
 use Prim.Native.Nat.{ℕ, ◌<◌, ◌≤◌}
 use native.Mathlib.Omega.{arith}
-use mathlib.Core.Path.{◌≡◌, sym, ap, ◌∙◌}
+use mathlib.Core.Path.{◌≡◌, refl, sym, ap, ◌∙◌}
 use mathlib.Core.Bool.{Bool}
 use mathlib.Core.List.{List}
-use lib.Dec.{ltb, lit<}
+use lib.Dec.{lit<}
 use lib.ListN.{length, take, drop}
-use borrow.Author.Tests.{lt-ltb, le-ltb}
 use Rattle.octets.specs.Choice.{pick}
 use Rattle.octets.specs.Texts.{ascii}
-use Rattle.octets.proofs.ChoiceLaws.{by_order}
 use Rattle.octets.proofs.PartLaws.{byte_alike, decimal_alike, text_alike}
 use Rattle.layout.specs.Grid.{grid_of}
 use Rattle.angles.specs.Angles.{northward, eastward}
@@ -23,8 +22,7 @@ use Rattle.fields.proofs.ItemRows.{item_below}
 use Rattle.fields.specs.declared.Item.TheVariants.{Level, Latitude, Longitude, Security, Partial}
 use Rattle.headers.specs.Judged.{keeps, broken, facts_in, judged}
 use Rattle.angles.specs.declared.Axis.{Axis}
-use Rattle.headers.specs.declared.JudgedHeaders.TheVariants.{Good, Refused}
-use Rattle.headers.proofs.BrokenRows.{turn, first_in, found_same}
+use Rattle.headers.proofs.BrokenRows.{turn, first_in, said, Found, found, found_same}
 use Rattle.headers.proofs.Exactly.{judged_by_row}
 
 -- each field holds the same bytes in both
@@ -80,23 +78,20 @@ module _ (s t : List ℕ) (same : SameFields s t) where
       let f = field_at i in
       λ k. fault f.2 (basis_same k) f.0 (same i h k)
 
-  rows_alike : first_in s (basis_in s) 40 0 40 ≡ first_in t (basis_in t) 40 0 40
+  rows_alike : first_in s (basis_in s) 0 40 ≡ first_in t (basis_in t) 0 40
   rows_alike =
-      found_same (turn s (basis_in s)) (turn t (basis_in t)) 40 40 0 (λ j r a b. ap (λ (x : Bool). pick x r j) (kept_alike j (omega arith)))
+      found_same (turn s (basis_in s)) (turn t (basis_in t)) 40 0 (λ j r a b. ap (λ (x : Bool). pick x r (Some j)) (kept_alike j (omega arith)))
 
   -- what the search over the table says
-  told_alike : (row : ℕ)
-      → pick (ltb row 40) (Refused (broken s (basis_in s) (field_at row))) (Good (facts_in s)) ≡ pick (ltb row 40) (Refused (broken t (basis_in t) (field_at row))) (Good (facts_in t))
-  told_alike row =
-      by_order 40 row
-      (λ h. rw (le-ltb row 40 h) (ap Good (facts_alike s t (items_same s t same))))
-      (λ h. rw (lt-ltb row 40 h) (ap Refused (broken_same row h)))
+  told_alike : (r : Option ℕ) → Found s (basis_in s) 0 40 r → said s (basis_in s) r (Ok (facts_in s)) ≡ said t (basis_in t) r (Ok (facts_in t))
+  told_alike None k = ap Ok (facts_alike s t (items_same s t same))
+  told_alike (Some row) b = ap Err (broken_same row b.high)
 
 -- H41: headers whose fields hold the same bytes are judged alike: the whole answer hangs on the forty fields
 pub free_bytes_lem : (s t : List ℕ) → 3428 ≤ length s → 3428 ≤ length t → SameFields s t → judged s ≡ judged t
 free_bytes_lem s t ls lt same =
-    let row = rows_alike s t same in
+    let row = first_in s (basis_in s) 0 40 in
     judged_by_row s ls
-    ∙ told_alike s t same (first_in s (basis_in s) 40 0 40)
-    ∙ ap (λ (i : ℕ). pick (ltb i 40) (Refused (broken t (basis_in t) (field_at i))) (Good (facts_in t))) row
+    ∙ told_alike s t same row (found s (basis_in s) 40 40 0 refl)
+    ∙ ap (λ (r : Option ℕ). said t (basis_in t) r (Ok (facts_in t))) (rows_alike s t same)
     ∙ sym (judged_by_row t lt)

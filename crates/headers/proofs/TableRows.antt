@@ -1,20 +1,16 @@
 -- The rows of the field table: each lies within the headers, and is as wide as its kind is.
-use Prim.Native.Nat.{ℕ, ◌+◌, ◌-◌, ◌<◌, ◌≤◌}
-use native.Mathlib.Nat.{add-sub_cancel_left}
+use Prim.Native.Nat.{ℕ, ◌+◌, ◌<◌, ◌≤◌}
 use native.Mathlib.Omega.{arith}
-use mathlib.Core.Path.{◌≡◌, ap, ◌∙◌}
+use mathlib.Core.Path.{◌≡◌, ◌∙◌}
 use mathlib.Core.Bool.{Bool}
 use mathlib.Core.List.{List, [], ◌∷◌}
 use lib.Dec.{leb, eqb, leb→le, eqb→eq}
-use lib.ListN.{length, take, drop, length-drop}
+use lib.ListN.{length, drop, length-drop}
 use lib.Seq.{length-take-le}
 use Rattle.octets.specs.Tests.{every}
 use Rattle.octets.proofs.TestLaws.{each, below}
 use Rattle.fields.specs.Table.{bytes_in, field_at}
-use Rattle.rules.specs.Rules.{width_of, holds}
-use Rattle.faults.specs.Fault.{fault}
-use Rattle.headers.specs.Judged.{keeps, broken}
-use Rattle.due.specs.declared.Basis.{Basis}
+use Rattle.rules.specs.Rules.{width_of}
 use Rattle.fields.specs.declared.Field.{Field}
 
 pub record Row (f : Field) : Type 0 where
@@ -34,27 +30,19 @@ row i h =
       wide = eqb→eq f.1 (width_of f.2) (held 1);
     }
 
--- the bytes of a field, lent as a part
-lent : (s : List ℕ) (f : Field) → take (f.0 + f.1 - f.0) (drop f.0 s) ≡ bytes_in s f
-lent s f = rw (add-sub_cancel_left f.0 f.1)
-
 pub bytes_long : (s : List ℕ) (f : Field) → f.0 + f.1 ≤ length s → length (bytes_in s f) ≡ f.1
 bytes_long s f h = length-take-le f.1 (drop f.0 s) (rw (length-drop f.0 s) (omega arith))
 
--- a row of the table, and its bytes lent: as wide as its kind, and the test of its rule
-module _ (s : List ℕ) (i : ℕ) (h : i < 40) (f : Field) (e : f ≡ field_at i) where
-  pub row_is : Row f
+-- a row of the table, and its bytes in headers that are there whole: they lie within the headers, and are as wide as its kind
+module _ (s : List ℕ) (long : 3428 ≤ length s) (i : ℕ) (h : i < 40) (f : Field) (e : f ≡ field_at i) where
+  row_is : Row f
   row_is = rw e (row i h)
 
-  pub row_bytes : 3428 ≤ length s → length (take (f.0 + f.1 - f.0) (drop f.0 s)) ≡ width_of f.2
-  row_bytes long = ap length (lent s f) ∙ bytes_long s f (omega (arith, row_is.within)) ∙ row_is.wide
+  pub row_there : f.0 + f.1 ≤ length s
+  row_there = omega (arith, row_is.within)
 
-  pub row_kept : (d : Basis) → holds f.2 d (take (f.0 + f.1 - f.0) (drop f.0 s)) ≡ keeps s d (field_at i)
-  row_kept d = ap (holds f.2 d) (lent s f) ∙ ap (keeps s d) e
+  pub row_wide : length (bytes_in s f) ≡ width_of f.2
+  row_wide = bytes_long s f row_there ∙ row_is.wide
 
-  -- within the headers, and the refusal where the rule is broken
-  pub row_within : 3428 ≤ length s → f.0 + length (take (f.0 + f.1 - f.0) (drop f.0 s)) ≤ 3428
-  row_within long = let n = row_bytes long in omega (arith, row_is.within, row_is.wide)
-
-  pub row_broken : (d : Basis) → fault f.2 d f.0 (take (f.0 + f.1 - f.0) (drop f.0 s)) ≡ broken s d (field_at i)
-  row_broken d = ap (fault f.2 d f.0) (lent s f) ∙ ap (broken s d) e
+  pub row_within : f.0 + length (bytes_in s f) ≤ 3428
+  row_within = omega (arith, bytes_long s f row_there, row_is.within)

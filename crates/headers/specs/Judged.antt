@@ -1,5 +1,5 @@
 -- How headers are judged: 1, then the refusal of the first field that breaks its rule (rules N1, N21 to N23).
-use Rattle.std.specs.Prelude.{ℕ, ◌<◌, ◌≤◌, ◌≡◌, Bool, true, not, List, [], ◌∷◌, length, eqb, ltb}
+use Rattle.std.specs.Prelude.{ℕ, ◌<◌, ◌≤◌, ◌≡◌, Bool, true, not, List, [], ◌∷◌, length, eqb, ltb, Result, Ok, Err}
 use Rattle.octets.specs.Choice.{pick, both}
 use Rattle.octets.specs.Digits.{decimal_at}
 use Rattle.octets.specs.Numbers.{Bytes}
@@ -16,8 +16,6 @@ use Rattle.rules.specs.Rules.{holds}
 use Rattle.faults.specs.Fault.{fault}
 use Rattle.due.specs.declared.Basis.{Basis}
 use Rattle.headers.specs.declared.Facts.{Facts}
-use Rattle.headers.specs.declared.JudgedHeaders.{JudgedHeaders}
-use Rattle.headers.specs.declared.JudgedHeaders.TheVariants.{Good, Refused}
 use Rattle.fields.specs.declared.Field.{Field}
 
 -- a field keeps its rule
@@ -38,12 +36,12 @@ facts_in s = record {
 }
 
 -- the first field that breaks its rule
-unfoldable pub judged_by : List ℕ → Basis → List Field → JudgedHeaders
-judged_by s b [] = Good (facts_in s)
-judged_by s b (f ∷ fs) = pick (keeps s b f) (judged_by s b fs) (Refused (broken s b f))
+unfoldable pub judged_by : List ℕ → Basis → List Field → Result Facts Refusal
+judged_by s b [] = Ok (facts_in s)
+judged_by s b (f ∷ fs) = pick (keeps s b f) (judged_by s b fs) (Err (broken s b f))
 
-unfoldable pub judged : List ℕ → JudgedHeaders
-judged s = pick (ltb (length s) header_bytes) (Refused (because.Short (length s))) (judged_by s (basis_in s) fields)
+unfoldable pub judged : List ℕ → Result Facts Refusal
+judged s = pick (ltb (length s) header_bytes) (Err (because.Short (length s))) (judged_by s (basis_in s) fields)
 
 -- the headers follow every rule
 abbrev pub Follows : List ℕ → Type 0
@@ -54,7 +52,7 @@ pub record Stands (f : Field) (v : List ℕ) : Type 0 where
   pub headers : List ℕ
   pub bytes : Bytes headers
   pub facts : Facts
-  pub accepted : judged headers ≡ Good facts
+  pub accepted : judged headers ≡ Ok facts
   pub there : bytes_in headers f ≡ v
 
 abbrev pub Impossible : Field → List ℕ → Type 0

@@ -5,9 +5,9 @@ ghost use Rattle.headers.specs.Basis.{basis_in};
 ghost use Rattle.headers.specs.Judged as by;
 ghost use Rattle.headers.specs.Asked.{RowToTell, LatitudeInRange};
 
+use crate::Facts;
 use crate::readings::{level_at, origin};
-use crate::rows::{FIRST, first_broken, four_keep, rest_keep};
-use crate::{Facts, JudgedHeaders};
+use crate::rows::{FIRST, first_broken};
 use angles::{EASTWARD, NORTHWARD};
 use answers::Refusal;
 use due::{Basis, NOTHING};
@@ -24,48 +24,40 @@ fn broken(s: &[u8], basis: Basis, row: usize) -> Refusal
     ensures { result ≡ by.broken s.now basis (field_at row) }
 {
     let field = fields::row(row);
-    let at = field.0;
-    let len = field.1;
-    let kind = field.2;
-    faults::broken(kind, basis, at, &s[at..at + len])
+    faults::broken(field.2, basis, field.0, field.bytes(s))
 }
 
 // The level, the origin and the security letter, once the first rows keep their rules.
+#[tactic(auto, using(crate::proofs::FirstFour::level_below, layout::proofs::NearEdges::edge_below), unfolding(crate::specs::Basis::basis_in))]
 fn basis_in(s: &[u8]) -> Basis
     requires { LatitudeInRange s.now }
     ensures { result ≡ basis_in s.now }
 {
     let latitude = origin(NORTHWARD, s, fields::places::LATITUDE);
-    let longitude = origin(EASTWARD, s, fields::places::LONGITUDE);
-    let letter = s[fields::places::SECURITY];
-    let grid = layout::grid_of(level_at(s), near_edge(latitude));
     Basis {
-        grid,
+        grid: layout::grid_of(level_at(s), near_edge(latitude)),
         latitude,
-        longitude,
-        letter,
+        longitude: origin(EASTWARD, s, fields::places::LONGITUDE),
+        letter: s[fields::places::SECURITY],
     }
 }
 
 // The facts of good headers, or the refusal of any bytes that do not begin with such.
-pub fn judge(s: &[u8]) -> JudgedHeaders
+pub fn judge(s: &[u8]) -> Result<Facts, Refusal>
     ensures { result ≡ by.judged s.now }
 {
     if s.len() < HEADER_BYTES {
-        return JudgedHeaders::Refused(Refusal::Short(s.len()));
+        return Err(Refusal::Short(s.len()));
     }
-    if !four_keep(s, NOTHING, 0) {
-        let row = first_broken(s, NOTHING, 0, FIRST);
-        return JudgedHeaders::Refused(broken(s, NOTHING, row));
+    if let Some(row) = first_broken(s, NOTHING, 0, FIRST) {
+        return Err(broken(s, NOTHING, row));
     }
     let basis = basis_in(s);
-    if !rest_keep(s, basis) {
-        let row = first_broken(s, basis, FIRST, FIELDS);
-        return JudgedHeaders::Refused(broken(s, basis, row));
+    if let Some(row) = first_broken(s, basis, FIRST, FIELDS) {
+        return Err(broken(s, basis, row));
     }
-    let grid = basis.grid;
-    JudgedHeaders::Good(Facts {
-        grid,
+    Ok(Facts {
+        grid: basis.grid,
         latitude: basis.latitude,
         longitude: basis.longitude,
         partial: decimal(s, fields::places::PARTIAL, 2),
@@ -76,10 +68,9 @@ pub fn judge(s: &[u8]) -> JudgedHeaders
 fn may_hold_voids(year: Year, facts: Facts) -> bool
     ensures { result ≡ by.voids_allowed year facts }
 {
-    let grid = facts.grid;
     match year {
         Year::One => facts.partial != 0,
-        Year::Two => both(facts.partial != 0, grid.level == 2),
+        Year::Two => both(facts.partial != 0, facts.grid.level == 2),
     }
 }
 
@@ -87,9 +78,8 @@ fn may_hold_voids(year: Year, facts: Facts) -> bool
 pub fn frame_of(year: Year, facts: Facts) -> Frame
     ensures { result ≡ by.frame_of year facts }
 {
-    let grid = facts.grid;
     Frame {
-        grid,
+        grid: facts.grid,
         voids: may_hold_voids(year, facts),
     }
 }

@@ -1,7 +1,6 @@
 // Headers: the 3,428 bytes before the first column, judged field by field in the order of the table.
 #![tactic(auto)]
 
-use answers::Refusal;
 use layout::Grid;
 
 pub mod judge;
@@ -15,10 +14,4 @@ pub struct Facts {
     pub latitude: usize,
     pub longitude: usize,
     pub partial: usize,
-}
-
-#[derive(Clone, Copy)]
-pub enum JudgedHeaders {
-    Good(Facts),
-    Refused(Refusal),
 }

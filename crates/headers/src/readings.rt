@@ -19,6 +19,8 @@ fn origin_in(axis: Axis, field: &[u8]) -> usize
 }
 
 // The angle of an origin in its field of the UHL.
+// Kept: a slice that is long enough, and no array of the headers' length: `headers:Judged.judged` is of all bytes that there are.
+#[tactic(auto, unfolding(crate::specs::Basis::origin_at))]
 pub fn origin(axis: Axis, s: &[u8], at: usize) -> usize
     requires { OriginThere axis s.now at }
     ensures { result ≡ origin_at axis s.now at }
@@ -27,6 +29,7 @@ pub fn origin(axis: Axis, s: &[u8], at: usize) -> usize
 }
 
 // The level whose latitude interval stands in the UHL.
+#[tactic(auto, unfolding(crate::specs::Basis::level_at))]
 pub fn level_at(s: &[u8]) -> usize
     requires { header_bytes ≤ length s.now }
     ensures { result ≡ level_at s.now }

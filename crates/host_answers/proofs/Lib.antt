@@ -1,2 +1,3 @@
 -- The laws of packed answers.
+pub mod PostBits
 pub mod TakenApart

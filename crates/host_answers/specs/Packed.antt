@@ -3,6 +3,8 @@
 use Rattle.std.specs.Prelude.{ℕ, ◌+◌, ◌-◌, ◌*◌, ◌%◌, List, [], ◌∷◌, ℤ, pos, negsuc, get_or}
 use Rattle.answers.specs.Told.{Told, refused, said, value_at, count_at}
 use Rattle.posts.specs.Heights.{void_number}
+use Rattle.posts.specs.declared.Post.{Post}
+use Rattle.posts.specs.declared.Post.TheVariants.{Height, Void}
 
 -- 16 bits of a number; of one below 0, in two's complement. `negsuc n` is -(n + 1)
 abbrev pub bits : ℤ → ℕ
@@ -12,6 +14,11 @@ bits (negsuc n) = 65535 - n % 65536
 -- void, as a height of a C host
 abbrev pub void_bits : ℕ
 void_bits = bits void_number
+
+-- the 16 bits of what a post reads as
+abbrev pub post_bits : Post → ℕ
+post_bits (Height z) = bits z
+post_bits Void = void_bits
 
 -- what an answer that is no refusal holds: nothing, which is 0; a grid; a height; a position, which is a post with its height
 abbrev pub a_grid : ℕ

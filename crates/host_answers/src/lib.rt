@@ -5,12 +5,13 @@ ghost use Rattle.std.specs.Prelude.{◌≡◌};
 ghost use Rattle.answers.specs.Told as told;
 ghost use Rattle.host_answers.specs.Packed as by;
 
-use answers::{Located, Outcome, Reading, Refusal, Verdict};
+use answers::{Located, Refusal, Verdict};
+use posts::Post;
 
 // Void's number, in the 16 bits of a height.
 const VOID: i16 = posts::heights::VOID as i16;
 
-// What an answer that is no refusal holds; 0 is nothing.
+// What an answer that is no refusal holds; 0 is nothing. Kept: numbers, since include/dted.h has them for C.
 const A_GRID: usize = 1;
 
 const A_HEIGHT: usize = 2;
@@ -21,10 +22,16 @@ const A_POSITION: usize = 3;
 fn bits(height: i16) -> usize
     ensures { result ≡ by.bits height }
 {
-    if height < 0 {
-        65535 - (-1 - height) as usize
-    } else {
-        height as usize
+    usize::from(height.cast_unsigned())
+}
+
+// The 16 bits of what a post reads as: those of void's number where it is void.
+fn post_bits(post: Post) -> usize
+    ensures { result ≡ by.post_bits post }
+{
+    match post {
+        Post::Height(metres) => bits(metres),
+        Post::Void => bits(VOID),
     }
 }
 
@@ -39,6 +46,7 @@ fn holding(what: usize, a: usize, b: usize, c: usize) -> u64
 }
 
 // A level, columns, and posts to a column.
+#[tactic(auto, unfolding(crate::specs::Packed::packed))]
 pub fn grid(level: usize, columns: usize, posts: usize) -> u64
     ensures { result ≡ by.packed (told.accepted level columns posts) }
 {
@@ -46,6 +54,7 @@ pub fn grid(level: usize, columns: usize, posts: usize) -> u64
 }
 
 // A refusal's number above its place.
+#[tactic(auto, unfolding(crate::specs::Packed::packed))]
 pub fn refusal(refusal: Refusal) -> u64
     ensures { result ≡ by.packed (told.numbered refusal) }
 {
@@ -53,49 +62,50 @@ pub fn refusal(refusal: Refusal) -> u64
     (told.0 % 0x100 * 0x100000000000000 + told.1 % 0x100000000000000) as u64
 }
 
-pub fn verdict(verdict: Verdict) -> u64
+// Kept: a function for each kind of answer, since `told` says each kind by its own values, and a call names its kind; they share `refusal` and `holding`.
+#[tactic(auto, unfolding(crate::specs::Packed::packed))]
+pub fn verdict(verdict: Result<Verdict, Refusal>) -> u64
     ensures { result ≡ by.packed (told.told told.intake verdict) }
 {
     match verdict {
-        Verdict::More => 0,
-        Verdict::Accepted {
-            level,
-            columns,
-            posts,
-        } => grid(level, columns, posts),
-        Verdict::Refused(why) => refusal(why),
+        Ok(Verdict::More) => 0,
+        Ok(
+            Verdict::Accepted {
+                level,
+                columns,
+                posts,
+            },
+        ) => grid(level, columns, posts),
+        Err(why) => refusal(why),
     }
 }
 
-pub fn reading(reading: Reading) -> u64
+#[tactic(auto, using(crate::proofs::PostBits::packed_post))]
+pub fn reading(reading: Result<Post, Refusal>) -> u64
     ensures { result ≡ by.packed (told.told told.post reading) }
 {
     match reading {
-        Reading::Height(metres) => holding(A_HEIGHT, 0, 0, bits(metres)),
-        Reading::Void => holding(A_HEIGHT, 0, 0, bits(VOID)),
-        Reading::Refused(why) => refusal(why),
+        Ok(post) => holding(A_HEIGHT, 0, 0, post_bits(post)),
+        Err(why) => refusal(why),
     }
 }
 
-pub fn located(located: Located) -> u64
+#[tactic(auto, using(crate::proofs::PostBits::packed_post_at))]
+pub fn located(located: Result<Located, Refusal>) -> u64
     ensures { result ≡ by.packed (told.told told.position located) }
 {
     match located {
-        Located::Height {
-            column,
-            post,
-            metres,
-        } => holding(A_POSITION, column, post, bits(metres)),
-        Located::Void { column, post } => holding(A_POSITION, column, post, bits(VOID)),
-        Located::Refused(why) => refusal(why),
+        Ok(found) => holding(A_POSITION, found.column, found.post, post_bits(found.reads)),
+        Err(why) => refusal(why),
     }
 }
 
-pub fn outcome(outcome: Outcome) -> u64
+#[tactic(auto, unfolding(crate::specs::Packed::packed))]
+pub fn outcome(outcome: Result<(), Refusal>) -> u64
     ensures { result ≡ by.packed (told.told told.act outcome) }
 {
     match outcome {
-        Outcome::Done => 0,
-        Outcome::Refused(why) => refusal(why),
+        Ok(()) => 0,
+        Err(why) => refusal(why),
     }
 }

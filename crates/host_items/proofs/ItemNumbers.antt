@@ -1,4 +1,5 @@
 -- Items as numbers and as a description: in range both ways, and each gives the other back.
+use Rattle.std.specs.Prelude.{Some, None}
 use Prim.Native.Nat.{ℕ, zero, suc, ◌-◌, ◌<◌}
 use native.Mathlib.Omega.{arith}
 use mathlib.Core.Path.{◌≡◌, refl, sym, ap, ◌∙◌}
@@ -30,16 +31,16 @@ use Rattle.host_items.proofs.NumberRanges.{ranged, angled, letters, versions, pa
 use Rattle.host_items.proofs.RangedNumbers.{ranged_numbers}
 use Rattle.host_items.proofs.TestsAlike.{test_alike}
 
--- W2, N9: 0 exactly where every item is in its range, and else the lowest that is not
+-- W2, N9: none is named exactly where every item is in its range, and else the lowest that is not
 pub number_exactly : (zs : List ℤ)
-    → ((bad_number zs ≡ 0 → every (number_tests zs) ≡ true) × (every (number_tests zs) ≡ true → bad_number zs ≡ 0))
-    × ((n : ℕ) → bad_number zs ≡ suc n → Lowest (number_tests zs) n)
+    → ((bad_number zs ≡ None → every (number_tests zs) ≡ true) × (every (number_tests zs) ≡ true → bad_number zs ≡ None))
+    × ((n : ℕ) → bad_number zs ≡ Some (suc n) → Lowest (number_tests zs) n)
 number_exactly zs = first_exactly (number_tests zs)
 
 -- and that is the item of the table: its number is answered exactly where it is out of range and none with a lower number is
 pub number_named : (zs : List ℤ) (i : Item)
-    → (bad_number zs ≡ item_number i → LowestBad (λ j. number_test j (item_in zs j)) i)
-    × (LowestBad (λ j. number_test j (item_in zs j)) i → bad_number zs ≡ item_number i)
+    → (bad_number zs ≡ Some (item_number i) → LowestBad (λ j. number_test j (item_in zs j)) i)
+    × (LowestBad (λ j. number_test j (item_in zs j)) i → bad_number zs ≡ Some (item_number i))
 unfolding number_tests
 number_named zs = named_exactly (λ i. number_test i (item_in zs i))
 
@@ -83,7 +84,7 @@ accuracy_back : (z : ℤ) → is_accuracy z ≡ true → accuracy_number (items.
 accuracy_back (pos n) e = refl
 accuracy_back (negsuc n) e = ap negsuc (omega (arith, leb-true n 0 (both_true (leb n 0) true e).0))
 
-number_back : (zs : List ℤ) → bad_number zs ≡ 0 → (i : Item) → number_for (description_of zs) i ≡ item_in zs i
+number_back : (zs : List ℤ) → bad_number zs ≡ None → (i : Item) → number_for (description_of zs) i ≡ item_in zs i
 unfolding description_of
 number_back zs e item.Level = counted_back 0 2 (item_in zs item.Level) (ranged_numbers zs e item.Level)
 number_back zs e item.Latitude = angle_back 90 (item_in zs item.Latitude) (omega arith) (ranged_numbers zs e item.Latitude)
@@ -99,12 +100,12 @@ number_back zs e (item.Accuracy whose.RelativeHorizontal) = accuracy_back _ (ran
 number_back zs e (item.Accuracy whose.RelativeVertical) = accuracy_back _ (ranged_numbers zs e (item.Accuracy whose.RelativeVertical))
 number_back zs e item.Partial = counted_back 0 99 (item_in zs item.Partial) (ranged_numbers zs e item.Partial)
 
-pub description_back : (zs : List ℤ) → bad_number zs ≡ 0 → (i : Item) → item_in (numbers_of (description_of zs)) i ≡ item_in zs i
+pub description_back : (zs : List ℤ) → bad_number zs ≡ None → (i : Item) → item_in (numbers_of (description_of zs)) i ≡ item_in zs i
 unfolding numbers_of
 description_back zs e i = at_number (number_for (description_of zs)) (pos 0) i ∙ number_back zs e i
 
 -- and say a description in range
-pub in_range_lem : (zs : List ℤ) → bad_number zs ≡ 0 → in_range (description_of zs) ≡ true
+pub in_range_lem : (zs : List ℤ) → bad_number zs ≡ None → in_range (description_of zs) ≡ true
 unfolding item_tests
 in_range_lem zs e =
     all_items (item_test (description_of zs))

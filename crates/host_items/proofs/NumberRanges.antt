@@ -6,15 +6,13 @@ use mathlib.Core.Bool.{Bool, true, false, false≢true}
 use lib.Dec.{T, leb, ltb}
 use lib.IntN.{ℤ, pos, negsuc, neg_ℤ, nat_abs, ◌+ℤ◌, ◌-ℤ◌}
 use lib.Signed.{le_z, non_neg}
-use mir.Syntax.{Width, w64}
-use mir.Val.{SFits, Fits, bits}
-use mir.Facts.{to_z-of_z}
+use mir.Syntax.{Width}
+use mir.Val.{Fits, bits}
 use borrow.Author.Tests.{leb-true, lt-ltb, le-ltb, le-leb, lt-leb, ne_eqb}
 use Rattle.octets.proofs.ChoiceLaws.{both_true, clash, by_order}
 use Rattle.rules.specs.Rules.{is_letter, is_version}
-use Rattle.octets.proofs.Signed.{NotBelow}
 use Rattle.octets.specs.Ranges.{between}
-use Rattle.host_items.specs.Items.{is_accuracy, counted}
+use Rattle.host_items.specs.Items.{counted}
 
 -- a number between two that are not below 0
 pub record Ranged (low high : ℕ) (z : ℤ) : Type 0 where
@@ -60,17 +58,6 @@ module _ (test : ℕ → Bool) (law : OfBytes test) where
   passes_counted (pos n) e = refl
   passes_counted (negsuc n) e = clash e law.nought
 
-  pub no_byte : (z : ℤ) → between (pos 0) (pos 255) z ≡ false → test (counted z) ≡ false
-  no_byte (pos n) e = by_order n 255 (λ h. clash (byte n h) e) (law.past n)
-  no_byte (negsuc n) e = law.nought
-
-pub whole : (z : ℤ) → SFits w64 z → le_z (pos 0) z ≡ true → NotBelow w64 z
-whole (pos n) f e = record { size = n; is = refl; small = f.sfits; back = to_z-of_z f }
-whole (negsuc n) f e = absurd (false≢true e)
-
-pub accuracy_high : (n : ℕ) → is_accuracy (pos n) ≡ true → n ≤ 9999
-accuracy_high n e = leb-true n 9999 e
-
 -- an angle, and how far it lies from its axis' end
 pub record Angled (side : ℕ) (z : ℤ) : Type 0 where
   pub size : ℕ
@@ -104,14 +91,7 @@ cast w z n e h = rw e (tt, record { fits = h })
 pub cast_is : (y z : ℤ) (n : ℕ) → y ≡ pos n → z ≡ pos n → nat_abs y ≡ counted z
 cast_is y z n e f = rw (e, f)
 
--- a difference of small numbers, and its sum with what was taken
-pub difference_fits : (a b : ℕ) → a < 1000 → b < 1000 → SFits w64 (pos a -ℤ pos b)
-difference_fits a zero h k = record { sfits = omega arith }
-difference_fits a (suc b) h k =
-    by_order (suc b) a
-    (λ m. rw (le-ltb a (suc b) m) (record { sfits = omega arith }))
-    (λ m. rw (lt-ltb a (suc b) m) (record { sfits = omega arith }))
-
+-- a difference of numbers, and its sum with what was taken
 pub difference_back : (a b : ℕ) → pos a -ℤ pos b +ℤ pos b ≡ pos a
 difference_back a zero = ap pos (omega arith)
 difference_back a (suc b) =

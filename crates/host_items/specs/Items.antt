@@ -1,5 +1,5 @@
 -- The items of a description as numbers, as a C host gives and gets them (rules W2 and B3): item n of the items' table at index n - 1.
-use Rattle.std.specs.Prelude.{ℕ, ◌-◌, Bool, List, map, ℤ, pos, negsuc, neg_ℤ, ◌+ℤ◌, ◌-ℤ◌, get_or}
+use Rattle.std.specs.Prelude.{ℕ, ◌-◌, Bool, List, map, ℤ, pos, negsuc, neg_ℤ, ◌+ℤ◌, ◌-ℤ◌, get_or, Option}
 use Rattle.octets.specs.Choice.{pick}
 use Rattle.octets.specs.Ranges.{between}
 use Rattle.rules.specs.Rules.{is_letter, is_version}
@@ -50,8 +50,8 @@ number_test items.Partial z = between (pos 0) (pos 99) z
 unfoldable pub number_tests : List ℤ → List Bool
 number_tests zs = map (λ (i : Item). number_test i (item_in zs i)) in_order
 
--- W2, N9: the lowest item out of range, or 0
-abbrev pub bad_number : List ℤ → ℕ
+-- W2, N9: the lowest item out of range, or none
+abbrev pub bad_number : List ℤ → Option ℕ
 bad_number zs = first_failed 1 (number_tests zs)
 
 -- W2: a datum, and an accuracy; what is below 0 is one that is not available

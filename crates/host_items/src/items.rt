@@ -1,5 +1,5 @@
 // The items of a description, given as numbers: ranged, and made a description.
-ghost use Rattle.std.specs.Prelude.{◌≡◌, ◌<◌, pos, ◌+ℤ◌};
+ghost use Rattle.std.specs.Prelude.{◌≡◌, ◌<◌, pos, ◌+ℤ◌, None};
 ghost use Rattle.std.specs.Int.Signed.{le_z};
 ghost use Rattle.rules.specs.Rules.{is_letter, is_version};
 ghost use Rattle.octets.specs.Ranges.{between};
@@ -11,6 +11,7 @@ use description::{Accuracies, Accuracy, Datum, Description};
 use octets::choices::both;
 use rules::letters::{is_letter, is_version};
 
+// Kept: beside the thirteen tests of `description`, since here it is the length of C's array.
 pub const ITEMS: usize = 13;
 
 // Whether item number i + 1 lies in a range.
@@ -18,40 +19,25 @@ fn lies(items: &[i64; ITEMS], i: usize, low: i64, high: i64) -> bool
     requires { i < 13 }
     ensures { result ≡ between low high (item items.now i) }
 {
-    let z = items[i];
-    both(low <= z, z <= high)
-}
-
-// An item that is a byte, as a letter is.
-fn letter(items: &[i64; ITEMS], i: usize) -> u8
-    requires { ItemThat (between (pos 0) (pos 255)) items.now i }
-    ensures { result ≡ counted (item items.now i) }
-{
-    items[i] as u8
+    (low..=high).contains(&items[i])
 }
 
 // Whether there is a security letter, and a match version; a number that is no byte is neither.
 fn has_security(items: &[i64; ITEMS]) -> bool
     ensures { result ≡ is_letter (counted (item items.now 3)) }
 {
-    if lies(items, 3, 0, 255) {
-        is_letter(letter(items, 3))
-    } else {
-        false
-    }
+    u8::try_from(items[3]).is_ok_and(is_letter)
 }
 
+// Kept: beside `has_security`, since a test as a parameter would have to be stated at both calls.
 fn has_version(items: &[i64; ITEMS]) -> bool
     ensures { result ≡ is_version (counted (item items.now 5)) }
 {
-    if lies(items, 5, 0, 255) {
-        is_version(letter(items, 5))
-    } else {
-        false
-    }
+    u8::try_from(items[5]).is_ok_and(is_version)
 }
 
 // Whether each item is in its range, in the items' order.
+#[tactic(auto, unfolding(crate::specs::Items::number_tests))]
 fn number_tests(items: &[i64; ITEMS]) -> [bool; ITEMS]
     ensures { result ≡ number_tests items.now }
 {
@@ -72,12 +58,20 @@ fn number_tests(items: &[i64; ITEMS]) -> [bool; ITEMS]
     ]
 }
 
-// The number of the lowest item that is out of range, 0 where none is.
-pub fn bad_number(items: &[i64; ITEMS]) -> usize
+// The number of the lowest item that is out of range, or none.
+pub fn bad_number(items: &[i64; ITEMS]) -> Option<usize>
     ensures { result ≡ bad_number items.now }
 {
-    let tests = number_tests(items);
-    first_failed(&tests)
+    first_failed(&number_tests(items))
+}
+
+// Kept: conversions by functions, here and in `numbers`: what the thirteen numbers mean is the C interface's, and no `From` of the types.
+// An item that is a byte, as a letter is.
+fn letter(items: &[i64; ITEMS], i: usize) -> u8
+    requires { ItemThat (between (pos 0) (pos 255)) items.now i }
+    ensures { result ≡ counted (item items.now i) }
+{
+    items[i] as u8
 }
 
 // An item that is not below 0, as a count.
@@ -119,7 +113,7 @@ fn accuracy(items: &[i64; ITEMS], i: usize) -> Accuracy
 
 // The description that numbers in range say.
 pub fn description(items: &[i64; ITEMS]) -> Description
-    requires { bad_number items.now ≡ 0 }
+    requires { bad_number items.now ≡ None }
     ensures { result ≡ description_of items.now }
 {
     Description {

@@ -22,6 +22,7 @@ fn degrees(angle: usize, side: usize) -> i64
     angle as i64 - side as i64
 }
 
+// Kept: no From, since these numbers are C's alone, and `description` knows nothing of them.
 fn datum_number(datum: Datum) -> i64
     ensures { result ≡ datum_number datum }
 {
@@ -35,7 +36,7 @@ fn accuracy_number(accuracy: Accuracy) -> i64
     ensures { result ≡ accuracy_number accuracy }
 {
     match accuracy {
-        Accuracy::Metres(metres) => metres as i64,
+        Accuracy::Metres(metres) => i64::from(metres),
         Accuracy::Unknown => -1,
     }
 }
@@ -44,27 +45,19 @@ fn numbers(d: Description) -> [i64; ITEMS]
     requires { in_range d ≡ true }
     ensures { result ≡ numbers_of d }
 {
-    let datum = d.datum;
-    let uhl = d.uhl;
-    let absolute = d.absolute;
-    let relative = d.relative;
-    let horizontal = absolute.horizontal;
-    let vertical = absolute.vertical;
-    let along = relative.horizontal;
-    let up = relative.vertical;
     [
         counting(d.level),
         degrees(d.latitude, 90),
         degrees(d.longitude, 180),
-        counting(d.security as usize),
+        i64::from(d.security),
         counting(d.edition),
-        counting(d.version as usize),
-        datum_number(datum),
-        accuracy_number(uhl),
-        accuracy_number(horizontal),
-        accuracy_number(vertical),
-        accuracy_number(along),
-        accuracy_number(up),
+        i64::from(d.version),
+        datum_number(d.datum),
+        accuracy_number(d.uhl),
+        accuracy_number(d.absolute.horizontal),
+        accuracy_number(d.absolute.vertical),
+        accuracy_number(d.relative.horizontal),
+        accuracy_number(d.relative.vertical),
         counting(d.partial),
     ]
 }

@@ -1,11 +1,11 @@
 -- W1, B2, N14: the writer for a C host answers exactly the first row of its order that holds, and as the writer over heights does.
+use Rattle.std.specs.Prelude.{None, Result, Ok, Err, ⊤}
+use Rattle.answers.specs.declared.Refusal.{Refusal}
 use Prim.Native.Nat.{ℕ, ◌*◌, ◌<◌}
 use mathlib.Core.Path.{◌≡◌, sym, ◌∙◌}
 use mathlib.Core.List.{List}
 use lib.IntN.{ℤ}
 use lib.ListN.{length}
-use Rattle.answers.specs.declared.Outcome.{Outcome}
-use Rattle.answers.specs.declared.Outcome.TheVariants.{Done, Refused}
 use Rattle.answers.specs.declared.Refusal.TheVariants.{GridLength}
 use Rattle.years.specs.declared.Year.{Year}
 use Rattle.description.proofs.RangedItems.{item_exactly}
@@ -27,15 +27,15 @@ use Rattle.host_writers.specs.Cell.{judged_bytes}
 
 module _ (year : Year) (items : List ℤ) (grid : List ℕ) (room : ℕ) where
   -- 10 to 12 under the description that the items say
-  abbrev pub judged_then : Outcome
+  abbrev pub judged_then : Result ⊤ Refusal
   judged_then = judged_under (frame_for year (description_of items)) (in_bytes grid) room
 
   -- 9 with the lowest item, then 10, 11, 12, or done
-  abbrev pub CellRow : Outcome → Type 0
+  abbrev pub CellRow : Result ⊤ Refusal → Type 0
   CellRow = ItemRow (number_tests items) (UnderRow (frame_of year (facts_for (description_of items))) (in_bytes grid) room)
 
   -- every row's answer is given
-  pub given : (x : Outcome) → CellRow x → judged_bytes year items grid room ≡ x
+  pub given : (x : Result ⊤ Refusal) → CellRow x → judged_bytes year items grid room ≡ x
   unfolding judged_bytes
   given = by_item.given (number_tests items) judged_then _ (given_under (frame_for year (description_of items)) (in_bytes grid) room)
 
@@ -44,17 +44,17 @@ module _ (year : Year) (items : List ℤ) (grid : List ℕ) (room : ℕ) where
   unfolding judged_bytes
   row = by_item.row (number_tests items) judged_then _ (row_under (frame_for year (description_of items)) (in_bytes grid) room)
 
-  pub numbers_fine : bad_number items ≡ 0 → judged_bytes year items grid room ≡ judged_then
+  pub numbers_fine : bad_number items ≡ None → judged_bytes year items grid room ≡ judged_then
   unfolding judged_bytes
   numbers_fine e = none_bad (bad_number items) judged_then e
 
   -- B2, N10 in plain numbers: any length but two bytes a post is 10, an odd one too
-  pub length_refused : bad_number items ≡ 0 → (length grid ≡ 2 * posts_due (facts_for (description_of items)).grid → ⊥)
-      → judged_bytes year items grid room ≡ Refused (GridLength (posts_due (facts_for (description_of items)).grid))
+  pub length_refused : bad_number items ≡ None → (length grid ≡ 2 * posts_due (facts_for (description_of items)).grid → ⊥)
+      → judged_bytes year items grid room ≡ Err (GridLength (posts_due (facts_for (description_of items)).grid))
   length_refused e other = numbers_fine e ∙ given_under (frame_for year (description_of items)) (in_bytes grid) room _ (differs other)
 
   -- where items are in range and the bytes are those of the posts due, the writer over heights answers the same
-  pub even_agrees : bad_number items ≡ 0 → Counts (in_bytes grid) (posts_due (facts_for (description_of items)).grid)
+  pub even_agrees : bad_number items ≡ None → Counts (in_bytes grid) (posts_due (facts_for (description_of items)).grid)
       → judged_bytes year items grid room ≡ judged_cell_write year (description_of items) (numbers (heights_in_bytes grid)) room
   unfolding judged_under
   even_agrees e h =
@@ -66,10 +66,10 @@ module _ (year : Year) (items : List ℤ) (grid : List ℕ) (room : ℕ) where
 
 -- what an accepted call was given
 pub record Ready (year : Year) (items : List ℤ) (grid : List ℕ) (room : ℕ) : Type 0 where
-  pub numbers : bad_number items ≡ 0
+  pub numbers : bad_number items ≡ None
   pub fine : UnderFine (frame_of year (facts_for (description_of items))) (in_bytes grid) room
 
-pub ready : (year : Year) (items : List ℤ) (grid : List ℕ) (room : ℕ) → judged_bytes year items grid room ≡ Done → Ready year items grid room
+pub ready : (year : Year) (items : List ℤ) (grid : List ℕ) (room : ℕ) → judged_bytes year items grid room ≡ Ok tt → Ready year items grid room
 unfolding judged_bytes
 ready year items grid room done =
     let r = by_item.ready (number_tests items) (judged_then year items grid room) done in
@@ -77,5 +77,5 @@ ready year items grid room done =
 
 -- the same of the column writer, for a level and a number that there are
 pub column_length_refused : (level number : ℕ) (posts : List ℕ) (room : ℕ) → level < 3 → number < zone_one_columns level → (length posts ≡ 2 * posts_of level → ⊥)
-    → judged_column_write level number (in_bytes posts) room ≡ Refused (GridLength (posts_of level))
+    → judged_column_write level number (in_bytes posts) room ≡ Err (GridLength (posts_of level))
 column_length_refused level number posts room h u other = column.given level number (in_bytes posts) room _ (by_number.then_rest _ h u (differs other))

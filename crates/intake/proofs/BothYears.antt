@@ -1,4 +1,6 @@
 -- Intake under both years: what year 2 accepts year 1 accepts, with the same answer, and what one frame gives is answered once.
+use Rattle.std.specs.Prelude.{Result, Ok, Err}
+use Rattle.answers.specs.declared.Refusal.{Refusal}
 use Prim.Native.Nat.{ℕ}
 use mathlib.Core.Path.{◌≡◌, refl, sym, ap, ◌∙◌}
 use mathlib.Core.List.{List}
@@ -8,8 +10,6 @@ use Rattle.years.specs.declared.Year.TheVariants.{One, Two}
 use Rattle.layout.specs.declared.Frame.{Frame}
 use Rattle.headers.specs.Judged.{judged, frame_of}
 use Rattle.headers.specs.declared.Facts.{Facts}
-use Rattle.headers.specs.declared.JudgedHeaders.{JudgedHeaders}
-use Rattle.headers.specs.declared.JudgedHeaders.TheVariants.{Good, Refused}
 use Rattle.cells.proofs.BothYears.{cell_before}
 use Rattle.intake.specs.Intake.{columns_from, taken_by, taken}
 use Rattle.intake.proofs.CellExactly.{accepted_only, cell_accepted}
@@ -20,10 +20,10 @@ accepted_before s l c p e =
     cell_accepted One s (cell_before s found.cell) ∙ sym (cell_accepted Two s found.cell) ∙ e
 
 -- where any good headers of the bytes give one frame under two years, they are answered alike, whatever they are
-by_headers : (a b : Year) (s : List ℕ) (x : JudgedHeaders) → ((f : Facts) → x ≡ Good f → frame_of a f ≡ frame_of b f) → taken_by a s x ≡ taken_by b s x
-by_headers a b s (Refused r) same = refl
-by_headers a b s (Good f) same = ap (λ (g : Frame). columns_from s g 0 f.grid.columns) (same f refl)
+by_headers : (a b : Year) (s : List ℕ) (x : Result Facts Refusal) → ((f : Facts) → x ≡ Ok f → frame_of a f ≡ frame_of b f) → taken_by a s x ≡ taken_by b s x
+by_headers a b s (Err r) same = refl
+by_headers a b s (Ok f) same = ap (λ (g : Frame). columns_from s g 0 f.grid.columns) (same f refl)
 
-pub taken_alike : (a b : Year) (s : List ℕ) → ((f : Facts) → judged s ≡ Good f → frame_of a f ≡ frame_of b f) → taken a s ≡ taken b s
+pub taken_alike : (a b : Year) (s : List ℕ) → ((f : Facts) → judged s ≡ Ok f → frame_of a f ≡ frame_of b f) → taken a s ≡ taken b s
 unfolding taken
 taken_alike a b s same = by_headers a b s (judged s) same

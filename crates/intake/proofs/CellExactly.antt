@@ -1,4 +1,7 @@
 -- D2: intake accepts exactly the cells that follow the scope, and each of their posts reads as one height or void.
+use Rattle.std.specs.Prelude.{Result, Ok, Err}
+use Rattle.answers.specs.declared.Refusal.{Refusal}
+use Rattle.headers.specs.declared.Facts.{Facts}
 use Prim.Native.Nat.{ℕ, ◌<◌}
 use mathlib.Core.Path.{◌≡◌, refl, sym, ap, ◌∙◌}
 use mathlib.Core.List.{List}
@@ -8,8 +11,6 @@ use Rattle.layout.specs.Ranges.{Ranged}
 use Rattle.posts.specs.Words.{post_of}
 use Rattle.posts.proofs.Readings.{Reads, reads}
 use Rattle.headers.specs.Judged.{judged, facts_in, frame_in, Follows}
-use Rattle.headers.specs.declared.JudgedHeaders.{JudgedHeaders}
-use Rattle.headers.specs.declared.JudgedHeaders.TheVariants.{Good, Refused}
 use Rattle.headers.proofs.Exactly.{good_follows, follows_good}
 use Rattle.headers.proofs.FirstFour.{good_facts}
 use Rattle.columns.specs.Column.{word_in}
@@ -32,9 +33,9 @@ pub taken_framed : (year : Year) (s : List ℕ) → Follows s → taken year s �
 unfolding taken
 taken_framed year s h = ap (taken_by year s) (follows_good s h)
 
-by_judged : (year : Year) (s : List ℕ) (x : JudgedHeaders) (l c p : ℕ) → judged s ≡ x → taken_by year s x ≡ accepted l c p → Follows s
-by_judged year s (Refused r) l c p j e = absurd (never_accepted r l c p e)
-by_judged year s (Good f) l c p j e = (good_follows s f j).0
+by_judged : (year : Year) (s : List ℕ) (x : Result Facts Refusal) (l c p : ℕ) → judged s ≡ x → taken_by year s x ≡ accepted l c p → Follows s
+by_judged year s (Err r) l c p j e = absurd (never_accepted r l c p e)
+by_judged year s (Ok f) l c p j e = (good_follows s f j).0
 
 pub accepted_only : (year : Year) (s : List ℕ) (l c p : ℕ) → taken year s ≡ accepted l c p → Accepted year s l c p
 unfolding taken

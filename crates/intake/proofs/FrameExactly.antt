@@ -1,4 +1,5 @@
 -- Under any frame in range: what is answered of the columns is exactly the first row that holds, and bytes are accepted exactly where they follow the frame.
+use Rattle.std.specs.Prelude.{Result, Ok, Err, ⊤}
 use Prim.Native.Nat.{ℕ, zero, suc, ◌+◌, ◌-◌, ◌≤◌, ◌<◌}
 use native.Mathlib.Nat.{sub-zero}
 use native.Mathlib.Omega.{arith}
@@ -14,8 +15,6 @@ use Rattle.layout.specs.declared.Frame.{Frame}
 use Rattle.layout.specs.Ranges.{Ranged}
 use Rattle.columns.specs.Column.{GoodColumn}
 use Rattle.columns.specs.Judged.{judged_column}
-use Rattle.columns.specs.declared.JudgedColumn.{JudgedColumn}
-use Rattle.columns.specs.declared.JudgedColumn.TheVariants.{Good, Refused}
 use Rattle.columns.proofs.Exactly.{good_only, good_if}
 use Rattle.cells.specs.Cell.{start_of, column_at, Framed}
 use Rattle.cells.proofs.ColumnPlaces.{column_long, column_whole}
@@ -32,7 +31,7 @@ GoodBefore s f k = (i : ℕ) → i < k → GoodAt s f i
 abbrev pub end_of : Frame → ℕ → ℕ
 end_of f k = start_of f.grid k + f.grid.bytes.column
 
-abbrev pub judged_at : List ℕ → Frame → ℕ → JudgedColumn
+abbrev pub judged_at : List ℕ → Frame → ℕ → Result ⊤ Refusal
 judged_at s f k = judged_column (column_at s f.grid k) k f.grid.posts f.voids (start_of f.grid k)
 
 -- the rows in their order, each where it holds and none before it does
@@ -40,7 +39,7 @@ pub data Row (s : List ℕ) (f : Frame) : Told → Type 0 where
   -- 3
   cut : (k : ℕ) → k < f.grid.columns → GoodBefore s f k → length s < end_of f k → Row s f (refused 3 (start_of f.grid k))
   -- 4, 5 and 6
-  column : (k : ℕ) → k < f.grid.columns → GoodBefore s f k → end_of f k ≤ length s → (r : Refusal) → judged_at s f k ≡ Refused r → Row s f (numbered r)
+  column : (k : ℕ) → k < f.grid.columns → GoodBefore s f k → end_of f k ≤ length s → (r : Refusal) → judged_at s f k ≡ Err r → Row s f (numbered r)
   -- 7
   surplus : GoodBefore s f f.grid.columns → (length s ≡ f.grid.bytes.cell → ⊥) → Row s f (refused 7 f.grid.bytes.cell)
   fine : Framed f s → Row s f (accepted f.grid.level f.grid.columns f.grid.posts)
@@ -75,7 +74,7 @@ module _ (s : List ℕ) (f : Frame) where
       rw same (
       passed k (omega arith) (λ i h. before i (omega arith))
       ∙ turn_here s f k (start_of f.grid k) refl (omega arith) here.0 (column_at s f.grid k) refl
-      ∙ ap (λ (x : JudgedColumn). or_rest x (rest (k + 1))) (good_if (column_at s f.grid k) k f.grid.posts f.voids (start_of f.grid k) here.1))
+      ∙ ap (λ (x : Result ⊤ Refusal). or_rest x (rest (k + 1))) (good_if (column_at s f.grid k) k f.grid.posts f.voids (start_of f.grid k) here.1))
 
   -- the first column that may not be good, there whole, is answered as it is judged
   pub first_judged : (k : ℕ) → k < f.grid.columns → GoodBefore s f k → end_of f k ≤ length s → answered ≡ or_rest (judged_at s f k) (rest (k + 1))
@@ -93,7 +92,7 @@ module _ (s : List ℕ) (f : Frame) where
     pub given : (t : Told) → Row s f t → answered ≡ t
     unfolding ended
     given _ (cut k u before short) = passed k (omega arith) before ∙ turn_cut s f k (start_of f.grid k) refl u short
-    given _ (column k u before whole r e) = first_judged k u before whole ∙ ap (λ (x : JudgedColumn). or_rest x (rest (k + 1))) e
+    given _ (column k u before whole r e) = first_judged k u before whole ∙ ap (λ (x : Result ⊤ Refusal). or_rest x (rest (k + 1))) e
     given _ (surplus before more) = all_passed before ∙ rw (ne_eqb (length s) f.grid.bytes.cell more)
     given _ (fine framed) = all_passed (framed_before framed) ∙ rw (eq-eqb (length s) f.grid.bytes.cell framed.long)
 
@@ -101,10 +100,10 @@ module _ (s : List ℕ) (f : Frame) where
     Some = (t : Told) × Row s f t
 
     -- a column that is there whole: the first that is not good, or one more that is
-    by_column : (k : ℕ) → k < f.grid.columns → GoodBefore s f k → end_of f k ≤ length s → (x : JudgedColumn) → judged_at s f k ≡ x
+    by_column : (k : ℕ) → k < f.grid.columns → GoodBefore s f k → end_of f k ≤ length s → (x : Result ⊤ Refusal) → judged_at s f k ≡ x
         → (GoodBefore s f (k + 1) → Some) → Some
-    by_column k u before whole (Refused r) e go = (numbered r, column k u before whole r e)
-    by_column k u before whole Good e go =
+    by_column k u before whole (Err r) e go = (numbered r, column k u before whole r e)
+    by_column k u before whole (Ok tt) e go =
         let here : GoodAt s f k = (whole, good_only (column_at s f.grid k) k f.grid.posts f.voids (start_of f.grid k) (column_long s f.grid k in_range_lem whole) e) in
         go (λ i h. by_order k i (λ v. let same : k ≡ i = omega arith in rw (← same) here) (λ v. before i v))
 

@@ -1,4 +1,6 @@
 -- I1, N14: intake answers exactly the first row of its order that holds.
+use Rattle.std.specs.Prelude.{Result, Ok, Err, ⊤}
+use Rattle.headers.specs.declared.Facts.{Facts}
 use Prim.Native.Nat.{ℕ, ◌+◌, ◌≤◌, ◌<◌}
 use mathlib.Core.Path.{◌≡◌, refl, sym, ap, subst, ◌∙◌}
 use mathlib.Core.List.{List}
@@ -7,11 +9,7 @@ use Rattle.answers.specs.Told.{Told, refused, accepted, numbered}
 use Rattle.answers.specs.declared.Refusal.{Refusal}
 use Rattle.years.specs.declared.Year.{Year}
 use Rattle.headers.specs.Judged.{judged, frame_in, Follows, facts_in}
-use Rattle.headers.specs.declared.JudgedHeaders.{JudgedHeaders}
-use Rattle.headers.specs.declared.JudgedHeaders.TheVariants as headers
 use Rattle.headers.proofs.Exactly.{good_follows}
-use Rattle.columns.specs.declared.JudgedColumn.{JudgedColumn}
-use Rattle.columns.specs.declared.JudgedColumn.TheVariants as columns
 use Rattle.cells.specs.Cell.{start_of, Cell}
 use Rattle.intake.specs.Intake.{taken_by, taken}
 use Rattle.intake.proofs.FrameExactly as under
@@ -24,17 +22,17 @@ GoodBefore year s k = under.GoodBefore s (frame_in year s) k
 abbrev pub end_of : List ℕ → ℕ → ℕ
 end_of s k = start_of (facts_in s).grid k + (facts_in s).grid.bytes.column
 
-abbrev pub judged_at : Year → List ℕ → ℕ → JudgedColumn
+abbrev pub judged_at : Year → List ℕ → ℕ → Result ⊤ Refusal
 judged_at year s k = under.judged_at s (frame_in year s) k
 
 -- the rows in the call's order, each where it holds and none before it does
 pub data IntakeRow (year : Year) (s : List ℕ) : Told → Type 0 where
   -- 1, 21 to 23
-  bad_headers : (r : Refusal) → judged s ≡ headers.Refused r → IntakeRow year s (numbered r)
+  bad_headers : (r : Refusal) → judged s ≡ Err r → IntakeRow year s (numbered r)
   -- 3
   cut : Follows s → (k : ℕ) → k < (facts_in s).grid.columns → GoodBefore year s k → length s < end_of s k → IntakeRow year s (refused 3 (start_of (facts_in s).grid k))
   -- 4, 5 and 6
-  column : Follows s → (k : ℕ) → k < (facts_in s).grid.columns → GoodBefore year s k → end_of s k ≤ length s → (r : Refusal) → judged_at year s k ≡ columns.Refused r
+  column : Follows s → (k : ℕ) → k < (facts_in s).grid.columns → GoodBefore year s k → end_of s k ≤ length s → (r : Refusal) → judged_at year s k ≡ Err r
       → IntakeRow year s (numbered r)
   -- 7
   surplus : Follows s → GoodBefore year s (facts_in s).grid.columns → (length s ≡ (facts_in s).grid.bytes.cell → ⊥)
@@ -60,10 +58,10 @@ module _ (year : Year) (s : List ℕ) where
   row_under _ h (under.surplus f more) = surplus h f more
   row_under _ h (under.fine framed) = fine (record { headers = h; framed = framed })
 
-  by_headers : (x : JudgedHeaders) → judged s ≡ x → IntakeRow year s (taken year s)
+  by_headers : (x : Result Facts Refusal) → judged s ≡ x → IntakeRow year s (taken year s)
   unfolding taken
-  by_headers (headers.Refused r) e = subst (IntakeRow year s) (sym (ap (taken_by year s) e)) (bad_headers r e)
-  by_headers (headers.Good f) e =
+  by_headers (Err r) e = subst (IntakeRow year s) (sym (ap (taken_by year s) e)) (bad_headers r e)
+  by_headers (Ok f) e =
       let h = (good_follows s f e).0 in
       subst (IntakeRow year s) (sym (taken_framed year s h)) (row_under _ h (under.row s (frame_in year s) (frame_ranged s h)))
 

@@ -1,4 +1,6 @@
 -- D2: one byte of a column of an accepted cell replaced by another value is refused, at a place inside that column.
+use Rattle.std.specs.Prelude.{Result, Ok, Err, ⊤}
+use Rattle.answers.specs.declared.Refusal.{Refusal}
 use Prim.Native.Nat.{ℕ, ◌+◌, ◌-◌, ◌*◌, ◌<◌, ◌≤◌}
 use native.Mathlib.Nat.{add-mul, mul-le-mul_right}
 use native.Mathlib.Omega.{arith}
@@ -15,12 +17,9 @@ use Rattle.layout.specs.Grid.{header_bytes}
 use Rattle.layout.specs.declared.Frame.{Frame}
 use Rattle.layout.specs.Ranges.{Ranged}
 use Rattle.headers.specs.Judged.{judged, facts_in, frame_in}
-use Rattle.headers.specs.declared.JudgedHeaders.TheVariants.{Good}
 use Rattle.headers.proofs.Exactly.{follows_good}
 use Rattle.headers.proofs.SameHeaders.{same_headers}
 use Rattle.columns.specs.Judged.{judged_column, RefusedIn}
-use Rattle.columns.specs.declared.JudgedColumn.{JudgedColumn}
-use Rattle.columns.specs.declared.JudgedColumn.TheVariants as column
 use Rattle.columns.proofs.Damage.{one_byte}
 use Rattle.cells.specs.Cell.{start_of, column_at, Framed, Cell}
 use Rattle.intake.specs.Intake.{or_rest, columns_from, taken}
@@ -31,9 +30,9 @@ use Rattle.intake.proofs.CellExactly.{frame_ranged}
 abbrev pub RefusedAt : ℕ → ℕ → Told → Type 0
 RefusedAt lo hi t = (t ≡ refused (number_told t) (place_told t)) × ((lo ≤ place_told t) × (place_told t < hi))
 
-refused_at : (lo hi : ℕ) (x : JudgedColumn) (rest : Told) → RefusedIn lo hi x → RefusedAt lo hi (or_rest x rest)
-refused_at lo hi column.Good rest p = absurd p
-refused_at lo hi (column.Refused r) rest p = (refusal_told r, p)
+refused_at : (lo hi : ℕ) (x : Result ⊤ Refusal) (rest : Told) → RefusedIn lo hi x → RefusedAt lo hi (or_rest x rest)
+refused_at lo hi (Ok tt) rest p = absurd p
+refused_at lo hi (Err r) rest p = (refusal_told r, p)
 
 -- under any frame: byte i of column k is replaced by v
 module _ (s : List ℕ) (f : Frame) (in_range_lem : Ranged f.grid) (framed : Framed f s) (k i v : ℕ) (h : k < f.grid.columns) (u : i < f.grid.bytes.column) where
@@ -86,7 +85,7 @@ one_byte_refused year s cell k j v h low high other =
     let start = start_of f.grid k in
     let at_j : start + (j - start) ≡ j = omega arith in
     let enough : header_bytes ≤ length s = cell.headers.0 in
-    let same : judged (set s j v) ≡ Good (facts_in s) =
+    let same : judged (set s j v) ≡ Ok (facts_in s) =
     same_headers (set s j v) s (rw length-set enough) enough (take-set-le header_bytes s j v (omega arith)) ∙ follows_good s cell.headers
     in
     rw same

@@ -1,4 +1,6 @@
 -- A turn of intake over the columns of a frame: the column that is due, and the end.
+use Rattle.std.specs.Prelude.{Result, ⊤}
+use Rattle.answers.specs.declared.Refusal.{Refusal}
 use Prim.Native.Nat.{ℕ, ◌+◌, ◌-◌, ◌≤◌, ◌<◌}
 use mathlib.Core.Path.{◌≡◌, ◌∙◌}
 use mathlib.Core.List.{List}
@@ -8,7 +10,6 @@ use Rattle.octets.proofs.ScanLaws.{scan_step, scan_done}
 use Rattle.answers.specs.Told.{refused}
 use Rattle.layout.specs.declared.Frame.{Frame}
 use Rattle.columns.specs.Judged.{and_then, head_of, words_from, judged_column}
-use Rattle.columns.specs.declared.JudgedColumn.{JudgedColumn}
 use Rattle.cells.specs.Cell.{start_of, column_at}
 use Rattle.intake.specs.Intake.{or_rest, judge_next, ended, columns_from}
 
@@ -30,7 +31,7 @@ module _ (s : List ℕ) (f : Frame) (k base : ℕ) (e : base ≡ start_of f.grid
 
   -- and by its preamble and checksum, judged x
   pub turn_as : k < f.grid.columns → base + f.grid.bytes.column ≤ length s → (column : List ℕ) → column ≡ column_at s f.grid k
-      → (x : JudgedColumn) → head_of column k f.grid.posts base ≡ x
+      → (x : Result ⊤ Refusal) → head_of column k f.grid.posts base ≡ x
       → columns_from s f k (f.grid.columns - k)
       ≡ or_rest (and_then x (words_from column f.voids base 0 f.grid.posts)) (columns_from s f (k + 1) (f.grid.columns - (k + 1)))
   unfolding judged_column

@@ -10,7 +10,7 @@ ghost use Rattle.steps.specs.Turns.{is_final};
 ghost use Rattle.intake_program.specs.Found.{FilledUpTo, Settled};
 ghost use Rattle.intake_program.specs.Printed.{Printed};
 
-use answers::Verdict;
+use answers::{Refusal, Verdict};
 use std::env::FillError;
 use std::io;
 use std::io::{Read, Stdin, Write};
@@ -41,89 +41,61 @@ impl Source for Stdin {
     }
 }
 
-// What a piece was filled with: so many bytes, or what the read answered that failed.
-#[derive(Clone, Copy)]
-enum Filled {
-    Bytes(usize),
-    Failed(io::Error),
-}
-
-// What the input was found to be; unread, with what the read answered that failed.
-#[derive(Clone, Copy)]
-enum Found {
-    Answer(Verdict),
-    Unread(io::Error),
-}
-
-// Reads until the piece is whole or the input ends: a short read is no end.
-fn fill<S: Source>(source: &mut S, buffer: &mut [u8], wanted: usize) -> Filled
+// Reads until the piece is whole or the input ends, and answers how many bytes it read: a short read is no end.
+// Kept: std's `read_exact` does not tell how many bytes came before the end, and the last piece may be shorter than wanted.
+fn fill<S: Source>(source: &mut S, buffer: &mut [u8], wanted: usize) -> io::Result<usize>
     requires { wanted ≤ length buffer.old }
     ensures { FilledUpTo S.IsFailure wanted result }
 {
     let mut done = 0;
     while done < wanted {
-        match source.read(&mut buffer[done..wanted]) {
-            Err(error) => return Filled::Failed(error),
-            Ok(more) => {
-                if more == 0 {
-                    return Filled::Bytes(done);
-                }
-                done += more;
-            }
+        let more = source.read(&mut buffer[done..wanted])?;
+        if more == 0 {
+            return Ok(done);
         }
+        done += more;
     }
-    Filled::Bytes(done)
+    Ok(done)
 }
 
 // Whether no other piece is due.
-fn is_final(answer: Verdict) -> bool
+fn is_final(answer: Result<Verdict, Refusal>) -> bool
     ensures { result ≡ is_final answer }
 {
-    match answer {
-        Verdict::More => false,
-        Verdict::Accepted {
-            level: _,
-            columns: _,
-            posts: _,
-        } => true,
-        Verdict::Refused(_) => true,
-    }
+    !matches!(answer, Ok(Verdict::More))
 }
 
 // Feeds the input to steps until an answer is final; each "more" leaves fewer turns.
-fn take_input<S: Source>(source: &mut S) -> Found
+fn take_input<S: Source>(source: &mut S) -> io::Result<Result<Verdict, Refusal>>
     ensures { Settled S.IsFailure result }
 {
     let mut buffer = [0u8; BUFFER];
     let mut steps = Steps::new(YEAR);
     loop {
-        let filled = fill(source, &mut buffer, steps.wanted());
-        match filled {
-            Filled::Failed(error) => return Found::Unread(error),
-            Filled::Bytes(n) => {
-                let stepped = steps.step(&buffer[..n]);
-                let answer = stepped.answer;
-                if is_final(answer) {
-                    return Found::Answer(answer);
-                }
-                let later = stepped.steps;
-                steps = later;
-            }
+        let n = fill(source, &mut buffer, steps.wanted())?;
+        let stepped = steps.step(&buffer[..n]);
+        if is_final(stepped.answer) {
+            return Ok(stepped.answer);
         }
+        steps = stepped.steps;
     }
 }
 
 // Prints what was found, or tells on standard error why there is nothing to print or it cannot be printed.
-fn tell<W: Write, E: Write>(found: Found, out: &mut W, errors: &mut E)
+fn tell<W: Write, E: Write>(
+    found: io::Result<Result<Verdict, Refusal>>,
+    out: &mut W,
+    errors: &mut E,
+)
     ensures { Printed found (W.contents out.old) (W.contents out.new) (E.contents errors.old) (E.contents errors.new) }
 {
     match found {
-        Found::Answer(answer) => {
+        Ok(answer) => {
             if printing::verdict(out, answer).is_err() {
                 let _ = printing::write_out(errors, b"intake: standard output cannot be written\n");
             }
         }
-        Found::Unread(_) => {
+        Err(_) => {
             let _ = printing::write_out(errors, b"intake: standard input cannot be read\n");
         }
     }

@@ -1,6 +1,5 @@
 -- The laws of the grid: what the functions' proofs and the callers cite.
 pub mod NearEdges
-pub mod Factors
 pub mod Ranges
 pub mod Table
 pub mod ZoneOne

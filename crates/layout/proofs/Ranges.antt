@@ -1,4 +1,6 @@
 -- What a laid grid is within, at every level and near edge.
+use Rattle.std.specs.Prelude.{Ok, Err}
+use Rattle.layout.specs.declared.NoGrid.TheVariants as none
 use mathlib.Core.Path.{◌≡◌, refl}
 use mathlib.Core.Bool.{Bool, true, false}
 use mathlib.Core.List.{List, [], ◌∷◌}
@@ -17,7 +19,6 @@ use Rattle.layout.specs.Grid.{longitude_interval, columns_of, header_bytes, cell
 use Rattle.octets.specs.Tests.{every, all_below}
 use Rattle.layout.specs.Ranges.{Ranged}
 use Rattle.layout.specs.declared.Grid.{Grid}
-use Rattle.layout.specs.declared.Laid.TheVariants.{Out, NoLevel, NoZone}
 use Rattle.octets.proofs.TestLaws.{each, below}
 
 -- what a grid is within, as tests, in the order of `Ranged`
@@ -100,17 +101,17 @@ columns_fit {columns} {column} h k = omega (arith, most_bytes columns column h k
 pub cell_fits : {columns column : ℕ} → columns ≤ 3601 → column ≤ 7214 → Fits w64 (header_bytes + columns * column)
 cell_fits {columns} {column} h k = omega (arith, most_bytes columns column h k)
 
-pub laid_in : (level edge : ℕ) → level < 3 → edge < 90 → laid level edge ≡ Out (grid_of level edge)
+pub laid_in : (level edge : ℕ) → level < 3 → edge < 90 → laid level edge ≡ Ok (grid_of level edge)
 unfolding laid
 laid_in level edge hl he = rw (lt-ltb level 3 hl, lt-ltb edge 90 he)
 
-out_by : (a b : Bool) (due g : Grid) → pick a (pick b (Out due) NoZone) NoLevel ≡ Out g → (a ≡ true) × ((b ≡ true) × (g ≡ due))
+out_by : (a b : Bool) (due g : Grid) → pick a (pick b (Ok due) (Err none.Zone)) (Err none.Level) ≡ Ok g → (a ≡ true) × ((b ≡ true) × (g ≡ due))
 out_by true true due g out = (refl, (refl, cc))
 out_by true false due g out = (refl, (cc, cc))
 out_by false b due g out = (cc, (cc, cc))
 
 -- what is laid out is the grid of a level and an edge that there are
-pub laid_out : (level edge : ℕ) (g : Grid) → laid level edge ≡ Out g → (level < 3) × ((edge < 90) × (g ≡ grid_of level edge))
+pub laid_out : (level edge : ℕ) (g : Grid) → laid level edge ≡ Ok g → (level < 3) × ((edge < 90) × (g ≡ grid_of level edge))
 unfolding laid
 laid_out level edge g out =
     let facts = out_by (ltb level 3) (ltb edge 90) (grid_of level edge) g out in

@@ -1,11 +1,11 @@
 -- The grid of a level and a near edge (rules G4 to G6).
-use Rattle.std.specs.Prelude.{ℕ, ◌+◌, ◌*◌, ◌/◌, ltb}
+use Rattle.std.specs.Prelude.{ℕ, ◌+◌, ◌*◌, ◌/◌, ltb, Result, Ok, Err}
+use Rattle.layout.specs.declared.NoGrid.TheVariants as none
+use Rattle.layout.specs.declared.NoGrid.{NoGrid}
 use Rattle.octets.specs.Choice.{pick}
 use Rattle.layout.specs.Levels.{degree, latitude_interval, posts_of, column_bytes}
 use Rattle.layout.specs.Zones.{factor_of}
 use Rattle.layout.specs.declared.Grid.{Grid}
-use Rattle.layout.specs.declared.Laid.{Laid}
-use Rattle.layout.specs.declared.Laid.TheVariants.{Out, NoLevel, NoZone}
 
 -- G4: the longitude interval is the latitude interval times the zone's factor
 unfoldable pub longitude_interval : ℕ → ℕ → ℕ
@@ -33,5 +33,5 @@ grid_of level edge = record {
 }
 
 -- any level and any near edge: there are three levels, and no edge past 89
-unfoldable pub laid : ℕ → ℕ → Laid
-laid level edge = pick (ltb level 3) (pick (ltb edge 90) (Out (grid_of level edge)) NoZone) NoLevel
+unfoldable pub laid : ℕ → ℕ → Result Grid NoGrid
+laid level edge = pick (ltb level 3) (pick (ltb edge 90) (Ok (grid_of level edge)) (Err none.Zone)) (Err none.Level)

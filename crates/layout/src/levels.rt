@@ -5,11 +5,11 @@ ghost use Rattle.layout.specs.Levels.{latitude_interval, column_bytes};
 // Tenths of an arc-second between two posts of a column, at levels 0, 1 and 2.
 const INTERVALS: [usize; 3] = [300, 30, 10];
 
-// The latitude interval of a level, 0 past the last level.
+// The latitude interval of a level, 0 past the last level. Kept: no Option, since `grid_of` is defined of any level.
 pub fn latitude_interval(level: usize) -> usize
     ensures { result ≡ latitude_interval level }
 {
-    if level < 3 { INTERVALS[level] } else { 0 }
+    INTERVALS.get(level).copied().unwrap_or(0)
 }
 
 // The bytes of a column: its preamble, two to a post, its checksum.

@@ -45,11 +45,11 @@ pub struct Frame {
     pub voids: bool,
 }
 
+// Why a level and a near edge make no grid.
 #[derive(Clone, Copy)]
-pub enum Laid {
-    Out(Grid),
-    NoLevel,
-    NoZone,
+pub enum NoGrid {
+    Level,
+    Zone,
 }
 
 // The grid of a level and a near edge that there are.
@@ -78,14 +78,15 @@ pub fn grid_of(level: usize, edge: usize) -> Grid
 }
 
 // What a level and a near edge make due; any numbers.
-pub fn lay(level: usize, edge: usize) -> Laid
+#[tactic(auto, unfolding(crate::specs::Grid::laid))]
+pub fn lay(level: usize, edge: usize) -> Result<Grid, NoGrid>
     ensures { result ≡ laid level edge }
 {
     if 3 <= level {
-        return Laid::NoLevel;
+        return Err(NoGrid::Level);
     }
     if 90 <= edge {
-        return Laid::NoZone;
+        return Err(NoGrid::Zone);
     }
-    Laid::Out(grid_of(level, edge))
+    Ok(grid_of(level, edge))
 }

@@ -1,4 +1,6 @@
 -- Lookup under both years: a post of a cell that year 2 accepts reads the same under year 1, and what one frame gives is answered once.
+use Rattle.std.specs.Prelude.{Result, Ok, Err}
+use Rattle.answers.specs.declared.Refusal.{Refusal}
 use Prim.Native.Nat.{ℕ, ◌<◌}
 use native.Mathlib.Omega.{arith}
 use mathlib.Core.Path.{◌≡◌, refl, sym, ap, ◌∙◌}
@@ -9,8 +11,6 @@ use Rattle.years.specs.declared.Year.TheVariants.{One, Two}
 use Rattle.layout.specs.declared.Frame.{Frame}
 use Rattle.headers.specs.Judged.{judged, facts_in, frame_of, frame_in}
 use Rattle.headers.specs.declared.Facts.{Facts}
-use Rattle.headers.specs.declared.JudgedHeaders.{JudgedHeaders}
-use Rattle.headers.specs.declared.JudgedHeaders.TheVariants.{Good, Refused}
 use Rattle.cells.specs.Cell.{Cell}
 use Rattle.cells.proofs.MadeCells.{cell_facts}
 use Rattle.cells.proofs.BothYears.{cell_before}
@@ -42,12 +42,12 @@ module _ (s : List ℕ) (cell : Cell Two s) (c p : ℕ) where
       (λ hc. by_order (facts_in s).grid.posts p (λ past. ap reading_of (off (λ h hp. absurd (omega arith)))) (λ hp. on hc hp))
 
 -- where any good headers of the bytes give one frame under two years, a post is reached alike, whatever the bytes are
-by_headers : (a b : Year) (s : List ℕ) (c p : ℕ) (x : JudgedHeaders) → ((f : Facts) → x ≡ Good f → frame_of a f ≡ frame_of b f)
+by_headers : (a b : Year) (s : List ℕ) (c p : ℕ) (x : Result Facts Refusal) → ((f : Facts) → x ≡ Ok f → frame_of a f ≡ frame_of b f)
     → reached_under a s x c p ≡ reached_under b s x c p
-by_headers a b s c p (Refused r) same = refl
-by_headers a b s c p (Good f) same = ap (λ (g : Frame). reached_in s g c p) (same f refl)
+by_headers a b s c p (Err r) same = refl
+by_headers a b s c p (Ok f) same = ap (λ (g : Frame). reached_in s g c p) (same f refl)
 
-pub reached_alike : (a b : Year) (s : List ℕ) → ((f : Facts) → judged s ≡ Good f → frame_of a f ≡ frame_of b f)
+pub reached_alike : (a b : Year) (s : List ℕ) → ((f : Facts) → judged s ≡ Ok f → frame_of a f ≡ frame_of b f)
     → (c p : ℕ) → reached a s c p ≡ reached b s c p
 unfolding reached
 reached_alike a b s same c p = by_headers a b s c p (judged s) same

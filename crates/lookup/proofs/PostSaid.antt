@@ -1,4 +1,5 @@
 -- What a lookup says of a word: what the word says, in the writer's form.
+use Rattle.std.specs.Prelude.{Ok}
 use Prim.Native.Nat.{ℕ, zero, suc, ◌-◌}
 use native.Mathlib.Omega.{arith}
 use native.Mathlib.Decide.{ℕ_discrete, dec_lt}
@@ -11,13 +12,13 @@ use Rattle.posts.specs.Heights.{void_depth, is_void, height_allowed, word_of, sa
 use Rattle.posts.proofs.PostWords.{up_post, down_post}
 use Rattle.posts.proofs.RoundTrip.{height_back}
 use Rattle.posts.proofs.Voids.{not_void}
-use Rattle.lookup.specs.Lookup.{post_reads, height_said}
+use Rattle.lookup.specs.Lookup.{height_said}
 
 below_void : (m : ℕ) → (m ≡ void_depth → ⊥) → is_void (neg_ℤ (pos m)) ≡ false
 below_void zero h = refl
 below_void (suc n) h = not_void (neg_ℤ (pos (suc n))) (λ q. let k : n ≡ void_depth - 1 = cc in h (omega arith))
 
-pub said : (w : ℕ) → told post (post_reads (post_of w)) ≡ height_said (said_by w)
+pub said : (w : ℕ) → told post (Ok (post_of w)) ≡ height_said (said_by w)
 unfolding post_of
 said w =
     elim (ℕ_discrete w 0xFFFF) [
@@ -30,5 +31,5 @@ said w =
     ]
 
 -- and of the word that was written for a height
-pub said_of_word : (voids : Bool) (z : ℤ) → height_allowed voids z ≡ true → told post (post_reads (post_of (word_of z))) ≡ height_said z
+pub said_of_word : (voids : Bool) (z : ℤ) → height_allowed voids z ≡ true → told post (Ok (post_of (word_of z))) ≡ height_said z
 said_of_word voids z a = said (word_of z) ∙ ap height_said (height_back voids z a)

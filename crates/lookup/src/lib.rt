@@ -8,37 +8,25 @@ ghost use Rattle.lookup.specs.Lookup.{reading_of, looked_up};
 
 pub mod reach;
 
-use crate::reach::{Reached, reach};
-use answers::{Reading, Refusal};
+use crate::reach::{Spot, reach};
+use answers::Refusal;
 use posts::Post;
 use posts::words::post_of;
-use years::{Named, year_of};
+use years::Year;
 
-// What a reached post reads as.
-pub fn read(reached: Reached) -> Reading
+// What a post reads as that was reached, or why it was not.
+pub fn read(reached: Result<Spot, Refusal>) -> Result<Post, Refusal>
     ensures { result ≡ reading_of reached }
 {
-    match reached {
-        Reached::At(spot) => {
-            let post = post_of(spot.word);
-            match post {
-                Post::Height(metres) => Reading::Height(metres),
-                Post::Void => Reading::Void,
-            }
-        }
-        Reached::Refused(refusal) => Reading::Refused(refusal),
-    }
+    reached.map(|spot| post_of(spot.word))
 }
 
+// Kept: column and post as two numbers, as `dted_post` and `dted_edit` have them in C and `reached` in what is promised.
 // The height or void of a post, 0 being the southern one of its column; any number for the rule year, any bytes and any numbers.
-pub fn look_up(named: u32, cell: &[u8], column: usize, post: usize) -> Reading
+#[tactic(auto, using(years::proofs::YearLaws::under_refused), unfolding(crate::specs::Lookup::looked_up))]
+pub fn look_up(named: u32, cell: &[u8], column: usize, post: usize) -> Result<Post, Refusal>
     ensures { told.told told.post result ≡ under named (λ year. looked_up year cell.now column post) }
 {
-    match year_of(named) {
-        Named::Rule(year) => {
-            let reached = reach(year, cell, column, post);
-            read(reached)
-        }
-        Named::Unknown => Reading::Refused(Refusal::Year(named as usize)),
-    }
+    let year = Year::try_from(named)?;
+    read(reach(year, cell, column, post))
 }

@@ -4,9 +4,8 @@ ghost use Rattle.layout.specs.Ranges.{Ranged};
 ghost use Rattle.lookup.specs.Reach as by;
 
 use answers::Refusal;
-use columns::JudgedColumn;
 use columns::places::word_at;
-use headers::judge::frame_of;
+use headers::judge::{frame_of, judge};
 use layout::{Frame, HEADER_BYTES};
 use octets::numbers::be16;
 use years::Year;
@@ -20,53 +19,40 @@ pub struct Spot {
     pub word: u16,
 }
 
-#[derive(Clone, Copy)]
-pub enum Reached {
-    At(Spot),
-    Refused(Refusal),
-}
-
 // A post under a frame.
-pub fn reach_in(cell: &[u8], frame: Frame, column: usize, post: usize) -> Reached
+pub fn reach_in(cell: &[u8], frame: Frame, column: usize, post: usize) -> Result<Spot, Refusal>
     requires { Ranged frame.grid }
     ensures { result ≡ by.reached_in cell.now frame column post }
 {
     let grid = frame.grid;
     let posts = grid.posts;
     if grid.columns <= column {
-        return Reached::Refused(Refusal::OffGrid);
+        return Err(Refusal::OffGrid);
     }
     if posts <= post {
-        return Reached::Refused(Refusal::OffGrid);
+        return Err(Refusal::OffGrid);
     }
-    let bytes = grid.bytes;
-    let size = bytes.column;
+    let size = grid.bytes.column;
     let start = HEADER_BYTES + column * size;
     let end = start + size;
     if cell.len() < end {
-        return Reached::Refused(Refusal::Cut(start));
+        return Err(Refusal::Cut(start));
     }
-    let voids = frame.voids;
     let part = &cell[start..end];
-    let judged = columns::judge(part, column, posts, voids, start);
-    match judged {
-        JudgedColumn::Good => Reached::At(Spot {
-            start,
-            posts,
-            voids,
-            word: be16(part, word_at(post)),
-        }),
-        JudgedColumn::Refused(refusal) => Reached::Refused(refusal),
-    }
+    columns::judge(part, column, posts, frame.voids, start)?;
+    Ok(Spot {
+        start,
+        posts,
+        voids: frame.voids,
+        word: be16(part, word_at(post)),
+    })
 }
 
 // A post of any bytes, by the rules of a year; any numbers.
-pub fn reach(year: Year, cell: &[u8], column: usize, post: usize) -> Reached
+#[tactic(auto, unfolding(crate::specs::Reach::reached))]
+pub fn reach(year: Year, cell: &[u8], column: usize, post: usize) -> Result<Spot, Refusal>
     ensures { result ≡ by.reached year cell.now column post }
 {
-    let judged = headers::judge::judge(cell);
-    match judged {
-        headers::JudgedHeaders::Good(facts) => reach_in(cell, frame_of(year, facts), column, post),
-        headers::JudgedHeaders::Refused(refusal) => Reached::Refused(refusal),
-    }
+    let facts = judge(cell)?;
+    reach_in(cell, frame_of(year, facts), column, post)
 }

@@ -1,9 +1,9 @@
 -- Laws of decimal digits: a number that fits is read back from its digits, and the steps of the loops over digits.
-use Rattle.std.proofs.Common.{◌≡◌, ℕ, zero, suc, ◌+◌, ◌-◌, ◌*◌, ◌/◌, ◌%◌, ◌^◌, ◌<◌, ◌≤◌, true, false, leb, List, [], ◌∷◌, map, length, get_or, take, drop, set, sym, refl, ap, ◌∙◌, add-zero, add-one, arith, lit<, length-drop, length-take-le, get_or-drop, get_or-take, ext_get_or, le-leb, leb-true}
+use Rattle.std.proofs.Common.{◌≡◌, ℕ, zero, suc, ◌+◌, ◌-◌, ◌*◌, ◌/◌, ◌%◌, ◌^◌, ◌<◌, ◌≤◌, true, leb, List, [], ◌∷◌, map, length, get_or, take, drop, set, sym, refl, ap, ◌∙◌, add-zero, add-one, arith, lit<, length-drop, length-take-le, drop-cons, get_or-drop, get_or-take, ext_get_or, le-leb, leb-true}
+use Rattle.std.specs.List.{list_all}
 use native.Mathlib.Nat.{pow-le-pow_right}
 use mathlib.Core.List.{map-append}
 use lib.ListN.{length-map, get_or-map}
-use Rattle.octets.specs.Choice.{both}
 use Rattle.octets.specs.Places.{places, value}
 use Rattle.octets.specs.Digits.{is_digit, digits_at, digit_of, decimal_at, digits_of}
 use Rattle.octets.specs.Pastes.{pasted}
@@ -41,24 +41,14 @@ decimal_small s at n h =
 pub length_digits : (n v : ℕ) → length (digits_of n v) ≡ n
 length_digits n v = length-map (places 10 n v) (λ (d : ℕ). 48 + d) ∙ length_places 10 n v
 
--- a search for a byte that is no digit: at the next byte, and at the end
-module _ (s : List ℕ) (at n i : ℕ) where
-  step : i < n → digits_at s (at + i) (n - i) ≡ both (is_digit (get_or s (at + i) 0)) (digits_at s (at + (i + 1)) (n - (i + 1)))
-  unfolding digits_at
-  step h =
-      let e : n - i ≡ suc (n - (i + 1)) = omega arith in
-      let f : at + i + 1 ≡ at + (i + 1) = omega arith in
-      rw (e, f)
-
-  pub digits_on : i < n → is_digit (get_or s (at + i) 0) ≡ true → digits_at s (at + i) (n - i) ≡ digits_at s (at + (i + 1)) (n - (i + 1))
-  digits_on h e = step h ∙ rw e
-
-  pub digits_stop : i < n → is_digit (get_or s (at + i) 0) ≡ false → digits_at s (at + i) (n - i) ≡ false
-  digits_stop h e = step h ∙ rw e
-
-  pub digits_done : n ≤ i → digits_at s (at + i) (n - i) ≡ true
-  unfolding digits_at
-  digits_done k = let e : n - i ≡ 0 = omega arith in rw e
+-- a test of each byte of a part
+pub digits_tested : (s : List ℕ) (at n : ℕ) → at + n ≤ length s → list_all is_digit (take n (drop at s)) ≡ digits_at s at n
+unfolding digits_at
+digits_tested s at zero h = refl
+digits_tested s at (suc n) h =
+    by_test (is_digit (get_or s at 0))
+    (λ e. rw (drop-cons s at 0 (omega arith), e, ← add-one at) (digits_tested s (at + 1) n (omega arith)))
+    (λ e. rw (drop-cons s at 0 (omega arith), e))
 
 pub decimal_step : (s : List ℕ) (at i : ℕ) → decimal_at s at (i + 1) ≡ decimal_at s at i * 10 + digit_of (get_or s (at + i) 0)
 unfolding value

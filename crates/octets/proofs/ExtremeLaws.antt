@@ -2,6 +2,8 @@
 use Rattle.std.proofs.Common.{◌≡◌, Bool, true, false, ℤ, pos, negsuc, refl, true≢false, arith, ltb-false, ltb-true, le-leb, leb-true}
 use mathlib.Core.Bool.{false≢true}
 use lib.Signed.{lt_z, le_z}
+use Rattle.std.proofs.lemmas.Int.{ints}
+use Rattle.std.specs.Int.{int_max, int_min}
 use Rattle.octets.specs.Choice.{both}
 use Rattle.octets.specs.Extremes.{larger_of, smaller_of}
 use Rattle.octets.proofs.ChoiceLaws.{both_true, both_is, by_test, same_test}
@@ -27,6 +29,15 @@ not_lt_le (pos a) (pos b) h = le-leb b a (ltb-false a b h)
 not_lt_le (pos a) (negsuc b) h = refl
 not_lt_le (negsuc a) (pos b) h = absurd (true≢false h)
 not_lt_le (negsuc a) (negsuc b) h = le-leb a b (ltb-false b a h)
+
+-- the larger and the smaller as std has them
+pub larger_is : (a b : ℤ) → int_max a b ≡ larger_of a b
+unfolding larger_of
+larger_is a b = by_test (lt_z a b) (λ h. rw h (grind (arith, ints))) (λ h. rw h (grind (arith, ints)))
+
+pub smaller_is : (a b : ℤ) → int_min a b ≡ smaller_of a b
+unfolding smaller_of
+smaller_is a b = by_test (lt_z a b) (λ h. rw h (grind (arith, ints))) (λ h. rw h (grind (arith, ints)))
 
 -- of a test and one that follows from it, the first says all
 first_says : (p q : Bool) → (p ≡ true → q ≡ true) → p ≡ both p q

@@ -1,5 +1,7 @@
 -- Laws of numbers in bytes: what stands there is what was put, for any number of bytes.
-use Rattle.std.proofs.Common.{◌≡◌, ℕ, ◌+◌, ◌*◌, ◌/◌, ◌%◌, ◌^◌, ◌<◌, ◌≤◌, List, [], ◌∷◌, length, get_or, take, drop, sym, ap, ◌∙◌, add-zero, arith, lit<, get_or-drop}
+use Rattle.std.proofs.Common.{◌≡◌, ℕ, zero, suc, ◌+◌, ◌*◌, ◌/◌, ◌%◌, ◌^◌, ◌<◌, ◌≤◌, List, [], ◌∷◌, ◌++◌, length, get_or, take, drop, sym, refl, ap, ◌∙◌, add-zero, arith, lit<, get_or-drop}
+use native.Mathlib.Nat.{pow-succ', div-div-eq-div-mul}
+use Rattle.std.specs.Int.{byte_at, bytes_high_first}
 use Rattle.octets.specs.Places.{places, value}
 use Rattle.octets.specs.Numbers.{number_at, bytes_of}
 use Rattle.octets.proofs.PlaceLaws.{value_same, value_one, value_below, value_places, places_value, length_places}
@@ -37,13 +39,19 @@ pub number_two : (s : List ℕ) (at : ℕ) → number_at s at 2 ≡ get_or s at 
 unfolding value
 number_two s at = rw (add-zero at) (omega arith)
 
--- a word's two bytes exchanged, and the low one put first
-pub swapped_bytes : (v : ℕ) → v < 0x10000 → bytes_of 2 v ≡ (v % 256 * 256 + v / 256) % 256 ∷ (v % 256 * 256 + v / 256) / 256 ∷ []
+-- the bytes as std has them: one place on, and all
+byte_on : (i v : ℕ) → byte_at (suc i) v ≡ byte_at i (v / 256)
+byte_on zero v = omega arith
+byte_on (suc i) v = ap (λ (n : ℕ). n % 256) (ap (λ (p : ℕ). v / p) (pow-succ' 256 (suc i)) ∙ sym (div-div-eq-div-mul v 256 (256 ^ suc i)))
+
+bytes_on : (n v : ℕ) → bytes_high_first (suc n) v ≡ bytes_high_first n (v / 256) ++ (v % 256 ∷ [])
+bytes_on zero v = refl
+bytes_on (suc n) v = rw (byte_on n v) (ap (λ (l : List ℕ). byte_at n (v / 256) ∷ l) (bytes_on n v))
+
+pub bytes_high : (n v : ℕ) → bytes_high_first n v ≡ bytes_of n v
 unfolding places
-swapped_bytes v h =
-    let high : v / 256 % 256 ≡ (v % 256 * 256 + v / 256) % 256 = omega arith in
-    let low : v % 256 ≡ (v % 256 * 256 + v / 256) / 256 = omega arith in
-    ap (λ (b : ℕ). b ∷ v % 256 ∷ []) high ∙ ap (λ (b : ℕ). (v % 256 * 256 + v / 256) % 256 ∷ b ∷ []) low
+bytes_high zero v = refl
+bytes_high (suc n) v = bytes_on n v ∙ ap (λ (l : List ℕ). l ++ (v % 256 ∷ [])) (bytes_high n (v / 256))
 
 -- two bytes read with the low one first, and exchanged, as code reads them
 pub swapped_number : (s : List ℕ) (at v : ℕ) → v % 256 ≡ get_or s at 0 → v / 256 ≡ get_or s (at + 1) 0 → v % 256 * 256 + v / 256 ≡ number_at s at 2

@@ -1,6 +1,6 @@
 -- Laws of pastes: lengths, one paste after another, single stores, parts that were lent and came back, and that bytes stay bytes.
-use Rattle.std.proofs.Common.{◌≡◌, ℕ, zero, suc, ◌+◌, ◌-◌, ◌<◌, ◌≤◌, List, [], ◌∷◌, ◌++◌, length, get_or, take, drop, set, replicate, sym, refl, ap, ◌∙◌, append_assoc, append-nil, add-one, arith, lit<, length-append, length-drop, take-append-drop, drop_of_length-le, length-take, length-take-le, get_or-drop, get_or-take, take-suc, drop-drop, take_at, drop_at}
-use lib.ListN.{length-replicate, get_or-eq_default}
+use Rattle.std.proofs.Common.{◌≡◌, ℕ, suc, ◌+◌, ◌-◌, ◌<◌, ◌≤◌, List, [], ◌∷◌, ◌++◌, length, get_or, take, drop, set, sym, ap, ◌∙◌, append_assoc, append-nil, arith, lit<, length-append, length-drop, take-append-drop, drop_of_length-le, length-take, length-take-le, get_or-drop, get_or-take, drop-drop, take_at, drop_at}
+use lib.ListN.{get_or-eq_default}
 use lib.Seq.{sets, sets-eq, set_split, take-set-le, drop-append-add}
 use borrow.Rule.Slice.PartMut.{put_mid}
 use Rattle.octets.specs.Pastes.{pasted}
@@ -84,31 +84,6 @@ paste_last l i n vs v e h =
     ap (drop (i + n)) (set_split l (i + n) v h) ∙ drop_at (take (i + n) l) (v ∷ drop (suc (i + n)) l) (i + n) (length-take-le (i + n) l (omega arith))
     in
     rw (k, e, d, take-set-le i l (i + n) v (omega arith)) (simp append_assoc)
-
--- the code's offsets as `sets` counts them
-pub two_on : (i : ℕ) → i + 2 ≡ suc (suc i)
-two_on i = omega arith
-
-pub three_on : (i : ℕ) → i + 3 ≡ suc (suc (suc i))
-three_on i = omega arith
-
--- a turn of a loop that pastes the elements of xs one by one
-pub paste_more : {A : Type 0} (l : List A) (at : ℕ) (xs : List A) (i : ℕ) (d : A) → i < length xs → at + i < length l
-    → set (pasted l at (take i xs)) (at + i) (get_or xs i d) ≡ pasted l at (take (i + 1) xs)
-paste_more l at xs i d h k =
-    paste_snoc l at i (take i xs) (get_or xs i d) (length-take-le i xs (omega arith)) k
-    ∙ ap (pasted l at) (rw add-one (sym (take-suc xs i d h)))
-
-replicate_snoc : {A : Type 0} (n : ℕ) (v : A) → replicate n v ++ (v ∷ []) ≡ replicate (suc n) v
-replicate_snoc zero v = refl
-replicate_snoc (suc n) v = ap (λ (l : List _). v ∷ l) (replicate_snoc n v)
-
--- a turn of a loop that fills with one value
-pub fill_more : {A : Type 0} (l : List A) (at i : ℕ) (v : A) → at + i < length l
-    → set (pasted l at (replicate i v)) (at + i) v ≡ pasted l at (replicate (i + 1) v)
-fill_more l at i v k =
-    paste_snoc l at i (replicate i v) v (length-replicate i v) k
-    ∙ ap (pasted l at) (rw add-one (replicate_snoc i v))
 
 -- a paste over the whole
 pub paste_all : {A : Type 0} (l vs : List A) → length vs ≡ length l → pasted l 0 vs ≡ vs

@@ -1,14 +1,10 @@
 -- Laws of byte sums: what is left, one byte replaced, bounds.
-use Rattle.std.proofs.Common.{◌≡◌, ℕ, zero, suc, ◌+◌, ◌-◌, ◌*◌, ◌/◌, ◌%◌, ◌<◌, ◌≤◌, List, [], ◌∷◌, ◌++◌, length, get_or, take, drop, set, sym, refl, ap, ◌∙◌, add-one, arith, take-append-drop, drop_of_length-le, drop-cons, drop-drop}
+use Rattle.std.proofs.Common.{◌≡◌, ℕ, zero, suc, ◌+◌, ◌-◌, ◌*◌, ◌/◌, ◌%◌, ◌<◌, ◌≤◌, List, [], ◌∷◌, ◌++◌, length, get_or, take, drop, set, sym, refl, ap, ◌∙◌, add-one, arith, take-append-drop, drop-cons, drop-drop}
 use Rattle.octets.specs.Sums.{sum_of, lows_of}
 
 pub sum_step : (l : List ℕ) (i : ℕ) → i < length l → sum_of (drop i l) ≡ get_or l i 0 + sum_of (drop (i + 1) l)
 unfolding sum_of
 sum_step l i h = rw (add-one, drop-cons l i 0)
-
-pub sum_done : (l : List ℕ) (i : ℕ) → length l ≤ i → sum_of (drop i l) ≡ 0
-unfolding sum_of
-sum_done l i h = rw (drop_of_length-le l h)
 
 pub sum_append : (a b : List ℕ) → sum_of (a ++ b) ≡ sum_of a + sum_of b
 unfolding sum_of

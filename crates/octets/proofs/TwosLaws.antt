@@ -1,8 +1,8 @@
 -- Two's complement words: what each says, as the machine makes it, and that heights of 16 bits come back.
-use Rattle.std.proofs.Common.{◌≡◌, ℕ, zero, suc, ◌+◌, ◌-◌, ◌<◌, ◌≤◌, true, leb, ℤ, pos, negsuc, ◌-ℤ◌, neg_ℤ, sym, refl, ap, ◌∙◌, arith, w16, SFits, to_z, le-ltb, lt-ltb, leb-true}
+use Rattle.std.proofs.Common.{◌≡◌, ℕ, ◌+◌, ◌-◌, ◌<◌, ◌≤◌, true, leb, ℤ, pos, negsuc, neg_ℤ, sym, ap, ◌∙◌, arith, w16, SFits, to_z, le-ltb, lt-ltb, leb-true}
 use mir.Facts.{to_z_pos}
 use Rattle.octets.specs.Ranges.{between}
-use Rattle.octets.proofs.ChoiceLaws.{both_true}
+use Rattle.octets.proofs.ChoiceLaws.{both_true, by_order}
 use Rattle.octets.specs.Twos.{twos_of, twos_word}
 
 -- a word below the sign bit is itself; any other, as far below -1 as it lies below FFFF hex
@@ -14,19 +14,12 @@ pub twos_high : (w : ℕ) → 0x8000 ≤ w → w < 0x10000 → twos_of w ≡ neg
 unfolding twos_of
 twos_high w h k = rw (le-ltb w 0x8000 h, lt-ltb w 0x10000 k) (ap negsuc (omega arith))
 
--- as the machine makes them
-pub low : (w : ℕ) → w < 0x8000 → to_z w16 w ≡ twos_of w
-low w h = to_z_pos w16 h ∙ sym (twos_low w h)
-
-minus_one : (n : ℕ) → negsuc 0 -ℤ pos n ≡ negsuc n
-minus_one zero = refl
-minus_one (suc n) = ap negsuc (omega arith)
-
-pub high : (w : ℕ) → 0x8000 ≤ w → w < 0x10000 → negsuc 0 -ℤ to_z w16 (0xFFFF - w) ≡ twos_of w
-high w h k = rw (to_z_pos w16 {n = 0xFFFF - w} (omega arith)) (minus_one (0xFFFF - w)) ∙ sym (twos_high w h k)
-
-pub high_fits : (w : ℕ) → 0x8000 ≤ w → w < 0x10000 → SFits w16 (twos_of w)
-high_fits w h k = rw (twos_high w h k) (record { sfits = omega arith })
+-- as the machine makes it
+pub twos_read : (w : ℕ) → w < 0x10000 → to_z w16 w ≡ twos_of w
+twos_read w h =
+    by_order 0x8000 w
+    (λ k. rw (le-ltb w 0x8000 k, twos_high w k h) (ap negsuc (omega arith)))
+    (λ k. to_z_pos w16 k ∙ sym (twos_low w k))
 
 -- a height of 16 bits has a word of 16 bits, and comes back from it
 back : (z : ℤ) → SFits w16 z → (twos_word z < 0x10000) × (twos_of (twos_word z) ≡ z)

@@ -5,11 +5,11 @@ ghost use Rattle.octets.specs.Choice as choice;
 pub fn both(a: bool, b: bool) -> bool
     ensures { result ≡ choice.both a b }
 {
-    if a { b } else { false }
+    a && b
 }
 
 pub fn either(a: bool, b: bool) -> bool
     ensures { result ≡ choice.either a b }
 {
-    if a { true } else { b }
+    a || b
 }

@@ -7,14 +7,18 @@ ghost use Rattle.octets.specs.Asked.{FewDigits};
 fn is_digit(b: u8) -> bool
     ensures { result ≡ is_digit b }
 {
-    crate::choices::both(b'0' <= b, b <= b'9')
+    b.is_ascii_digit()
 }
 
-// What a digit counts; 0 for any other byte.
+// What a digit counts; 0 for any other byte. Kept: no Option, since `digit_of` counts any byte, and `decimal_at` reads any field by it.
 fn digit(b: u8) -> usize
     ensures { (result ≡ digit_of b) × (result < 10) }
 {
-    if is_digit(b) { (b - b'0') as usize } else { 0 }
+    if is_digit(b) {
+        usize::from(b - b'0')
+    } else {
+        0
+    }
 }
 
 // Whether n digits stand at `at`.
@@ -22,14 +26,7 @@ pub fn are_digits(s: &[u8], at: usize, n: usize) -> bool
     requires { at + n ≤ length s.now }
     ensures { result ≡ digits_at s.now at n }
 {
-    let mut i = 0;
-    while i < n {
-        if !is_digit(s[at + i]) {
-            return false;
-        }
-        i += 1;
-    }
-    true
+    s[at..at + n].iter().all(|b| is_digit(*b))
 }
 
 // The number that n digits at `at` write.
@@ -38,10 +35,8 @@ pub fn decimal(s: &[u8], at: usize, n: usize) -> usize
     ensures { (result ≡ decimal_at s.now at n) × (result < 10 ^ n) }
 {
     let mut v = 0;
-    let mut i = 0;
-    while i < n {
-        v = v * 10 + digit(s[at + i]);
-        i += 1;
+    for b in &s[at..at + n] {
+        v = v * 10 + digit(*b);
     }
     v
 }
@@ -51,11 +46,9 @@ pub fn put_digits(s: &mut [u8], at: usize, n: usize, v: usize)
     requires { at + n ≤ length s.old }
     ensures { s.new ≡ pasted s.old at (digits_of n v) }
 {
-    let mut left = n;
     let mut rest = v;
-    while 0 < left {
-        left -= 1;
-        s[at + left] = b'0' + (rest % 10) as u8;
+    for i in (0..n).rev() {
+        s[at + i] = b'0' + (rest % 10) as u8;
         rest /= 10;
     }
 }

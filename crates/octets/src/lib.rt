@@ -1,4 +1,5 @@
 // Lent bytes: numbers high byte first, byte sums, decimal digits, fixed texts, and bytes put over bytes.
+// Kept: offsets into a slice, and no part of it, since the definitions read and put at a place.
 #![tactic(auto)]
 
 pub mod choices;

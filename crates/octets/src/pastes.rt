@@ -7,11 +7,7 @@ pub fn paste(dst: &mut [u8], at: usize, src: &[u8])
     requires { at + length src.now ≤ length dst.old }
     ensures { dst.new ≡ pasted dst.old at src.now }
 {
-    let mut i = 0;
-    while i < src.len() {
-        dst[at + i] = src[i];
-        i += 1;
-    }
+    dst[at..at + src.len()].copy_from_slice(src);
 }
 
 // n bytes of one value over what stands at `at`; every other byte stays.
@@ -19,9 +15,5 @@ pub fn fill(dst: &mut [u8], at: usize, n: usize, b: u8)
     requires { at + n ≤ length dst.old }
     ensures { dst.new ≡ pasted dst.old at (replicate n b) }
 {
-    let mut i = 0;
-    while i < n {
-        dst[at + i] = b;
-        i += 1;
-    }
+    dst[at..at + n].fill(b);
 }

@@ -7,19 +7,13 @@ pub fn sum(part: &[u8]) -> u32
     requires { length part.now ≤ 65536 }
     ensures { result ≡ sum_of part.now }
 {
-    let mut sum: u32 = 0;
-    let mut i = 0;
-    while i < part.len() {
-        sum += crate::numbers::wide(part[i]);
-        i += 1;
-    }
-    sum
+    part.iter().map(|b| u32::from(*b)).sum()
 }
 
 // The sum of the bytes of words, from 16 bits of the words' sum and the sum of their high bytes; right where 16 bits hold that of the low ones.
 pub fn bytes_of(words: u16, highs: u16) -> u32
     ensures { result ≡ highs + lows_of words highs }
 {
-    let lows = std::num::wrapping_sub_u16(words, highs % 256 * 256);
-    highs as u32 + lows as u32
+    let lows = words.wrapping_sub(highs % 256 * 256);
+    u32::from(highs) + u32::from(lows)
 }

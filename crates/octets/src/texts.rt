@@ -2,19 +2,18 @@
 ghost use Rattle.std.specs.Prelude.{◌≡◌, ◌+◌, ◌≤◌, length};
 ghost use Rattle.octets.specs.Texts.{differ, has};
 
-// The index of the first byte of `want` that does not stand at `at`; its length where all do.
+// The index of the first byte of `want` that does not stand at `at`; its length where all do. Kept: no
+// Option, as `differ` has it: of a text that stands, what comes next is its end; and a loop, since of `position` the check finds no proof by itself.
 pub fn differs(s: &[u8], at: usize, want: &[u8]) -> usize
     requires { at + length want.now ≤ length s.now }
     ensures { (result ≡ differ s.now at want.now) × (result ≤ length want.now) }
 {
-    let mut i = 0;
-    while i < want.len() {
-        if s[at + i] != want[i] {
+    for (i, b) in want.iter().enumerate() {
+        if s[at + i] != *b {
             return i;
         }
-        i += 1;
     }
-    i
+    want.len()
 }
 
 // Whether `want` stands at `at`.

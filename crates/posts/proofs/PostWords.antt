@@ -1,6 +1,7 @@
 -- Post words by their sign: what a word reads as, whether it is allowed, and the word of a height.
-use Rattle.std.proofs.Common.{◌≡◌, ℕ, zero, suc, ◌+◌, ◌-◌, ◌%◌, ◌<◌, ◌≤◌, Bool, true, false, leb, ℤ, pos, negsuc, neg_ℤ, sym, refl, ap, ◌∙◌, arith, le-ltb, lt-ltb, ne_eqb}
-use native.Mathlib.Nat.{mod-add-mod}
+use Rattle.std.proofs.Common.{◌≡◌, ℕ, zero, suc, ◌+◌, ◌-◌, ◌%◌, ◌<◌, ◌≤◌, Bool, true, false, leb, ℤ, pos, negsuc, neg_ℤ, sym, refl, ◌∙◌, arith, add-one, true≢false, ltb-true, le-ltb, lt-ltb, ne_eqb}
+use lib.Signed.{lt_z}
+use Rattle.std.specs.Int.RustNames.{unsigned_abs}
 use lib.Dec.{leb-suc-suc}
 use Rattle.octets.specs.Choice.{both}
 use Rattle.posts.specs.Words.{height_of, post_of, in_range, word_allowed, negative_zero}
@@ -48,14 +49,16 @@ unfolding word_allowed height_of
 down_allowed voids w h v =
     simp (ne_eqb w 0xFFFF v, le-ltb w 0x8000 h, down_in_range)
 
--- the word of a height
-pub up_word : (z : ℤ) (n : ℕ) → z ≡ pos n → n % 0x8000 ≡ word_of z
+-- the word of a height, by its sign and its magnitude
+pub word_down : (z : ℤ) → lt_z z (pos 0) ≡ true → 0x8000 + unsigned_abs z % 0x8000 ≡ word_of z
 unfolding word_of
-up_word z n e = rw e
+word_down (pos n) h = absurd (omega (arith, ltb-true n 0 h))
+word_down (negsuc n) h = rw add-one
 
-pub down_word : (z : ℤ) (n : ℕ) → z ≡ negsuc n → 0x8000 + (n % 0x8000 + 1) % 0x8000 ≡ word_of z
+pub word_up : (z : ℤ) → lt_z z (pos 0) ≡ false → unsigned_abs z % 0x8000 ≡ word_of z
 unfolding word_of
-down_word z n e = rw e (ap (λ (m : ℕ). 0x8000 + m) (mod-add-mod n 0x8000 1))
+word_up (pos n) h = refl
+word_up (negsuc n) h = absurd (true≢false h)
 
 -- where voids are allowed counts for void alone
 pub other_word : (a b : Bool) (w : ℕ) → (w ≡ 0xFFFF → ⊥) → word_allowed a w ≡ word_allowed b w

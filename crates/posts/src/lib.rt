@@ -7,6 +7,7 @@ pub mod spans;
 pub mod words;
 
 // What one post says.
+// Kept: an enum of its own and no Option, as the scope has it (K6).
 #[derive(Clone, Copy)]
 pub enum Post {
     Height(i16),

@@ -10,12 +10,12 @@ use octets::extremes::larger;
 use octets::numbers::{low_first, swapped};
 use octets::sums::bytes_of;
 use octets::twos::number_of;
-use std::num::wrapping_add_u16;
 
 // How many words a part has at most: 16 bits hold the sum of their high bytes, and that of their low bytes.
 pub const MOST: usize = 256;
 
 // What a part of a column, or all of it, sums up to, and whether each of its words is allowed.
+// Kept: the sum stands beside the test and in no Option, since the checksum is judged before the words are, allowed or not.
 #[derive(Clone, Copy)]
 pub struct Measured {
     pub sum: u32,
@@ -51,19 +51,17 @@ pub fn measure_part(s: &[u8], at: usize, n: usize, voids: bool) -> Measured
     ensures allowed { result.allowed ≡ words_allowed voids s.now at n }
 {
     let turn = turn_for(voids);
-    let mut highest: i16 = -32768;
-    let mut deepest: i16 = -32768;
+    let mut highest = i16::MIN;
+    let mut deepest = i16::MIN;
     let mut words: u16 = 0;
     let mut highs: u16 = 0;
-    let mut i = 0;
-    while i < n {
+    for i in 0..n {
         let read = low_first(s, at + 2 * i);
         let word = swapped(read);
         highest = larger(highest, number_of(word));
-        deepest = larger(deepest, number_of(wrapping_add_u16(word, turn)));
-        words = wrapping_add_u16(words, read);
+        deepest = larger(deepest, number_of(word.wrapping_add(turn)));
+        words = words.wrapping_add(read);
         highs += read / 256;
-        i += 1;
     }
     Measured {
         sum: bytes_of(words, highs),

@@ -25,8 +25,8 @@ pub fn post_of(word: u16) -> Post
         return Post::Void;
     }
     if word < 0x8000 {
-        return Post::Height(word as i16);
+        return Post::Height(word.cast_signed());
     }
-    let magnitude = (word - 0x8000) as i16;
-    Post::Height(0 - magnitude)
+    let magnitude = (word - 0x8000).cast_signed();
+    Post::Height(-magnitude)
 }

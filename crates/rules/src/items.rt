@@ -9,7 +9,8 @@ use octets::choices::{both, either};
 use octets::digits::{are_digits, decimal};
 use octets::texts::stands;
 
-// The latitude interval of one of the three levels.
+// The latitude interval of one of the three levels. Kept: here and below the width is asked, and no array taken, since a field is cut by its row.
+// Kept: three tests, since a loop over the three texts would be no shorter.
 fn is_level(field: &[u8]) -> bool
     requires { length field.now ≡ 4 }
     ensures { result ≡ is_level field.now }
@@ -60,6 +61,7 @@ fn is_datum(field: &[u8]) -> bool
 }
 
 // Metres, or not available.
+#[tactic(auto, unfolding(crate::specs::Rules::is_accuracy))]
 fn is_accuracy(field: &[u8]) -> bool
     requires { length field.now ≡ 4 }
     ensures { result ≡ is_accuracy field.now }
@@ -71,6 +73,7 @@ fn is_accuracy(field: &[u8]) -> bool
 }
 
 // Whether the field of an item keeps its rule.
+#[tactic(auto, unfolding(crate::specs::Rules::item_holds))]
 pub fn item_holds(item: Item, field: &[u8]) -> bool
     requires { length field.now ≡ item_width item }
     ensures { result ≡ item_holds item field.now }

@@ -9,6 +9,7 @@ use due::compare::{first_wrong, may_end};
 use fields::{Due, Kind};
 
 // Whether what is due stands in a field, or stands but for a letter that may be the other one.
+#[tactic(auto, using(crate::proofs::DueHolds::all_stand, crate::proofs::DueHolds::last_differs, crate::proofs::DueHolds::early_differs))]
 fn due_holds(due: Due, basis: Basis, field: &[u8]) -> bool
     requires { DueInRange due basis field.now }
     ensures { result ≡ due_holds due basis field.now }
@@ -25,6 +26,7 @@ fn due_holds(due: Due, basis: Basis, field: &[u8]) -> bool
 }
 
 // Whether a field of this kind keeps its rule.
+// Kept: what a basis is within is asked, as in `due::due_angles::due_angle`, since `headers:Basis.basis_in` makes one of any bytes.
 pub fn keeps(kind: Kind, basis: Basis, field: &[u8]) -> bool
     requires { FieldOfKind kind basis field.now }
     ensures { result ≡ holds kind basis field.now }

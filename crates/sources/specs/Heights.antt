@@ -4,17 +4,10 @@ use Rattle.octets.specs.Numbers.{number_at, bytes_of_words}
 use Rattle.octets.specs.Parts.{listed}
 use Rattle.octets.specs.Twos.{twos_of, twos_word}
 use Rattle.posts.specs.Heights.{word_of}
-use Rattle.sources.specs.declared.Source.{Source}
-use Rattle.sources.specs.declared.Source.TheVariants as source
 
 pub data Heights : Type 0 where
   numbers : List ℤ → Heights
   in_bytes : List ℕ → Heights
-
--- what a choice makes of the two slices that a call has
-abbrev pub heights_from : Source → List ℤ → List ℕ → Heights
-heights_from source.Numbers zs bs = numbers zs
-heights_from source.Bytes zs bs = in_bytes bs
 
 -- how many heights there are; a last byte alone is none
 abbrev pub count_of : Heights → ℕ

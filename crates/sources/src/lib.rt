@@ -1,39 +1,56 @@
-// Where a writer's heights come from: a choice by value, beside the two slices that it may mean; the other one is empty. So one loop serves
-// every source.
+// The sources of a writer's heights. What is generic over a source is compiled for each: a loop over heights asks nothing about it.
 #![tactic(auto)]
 
 ghost use Rattle.std.specs.Prelude.{◌≡◌, ◌<◌};
-ghost use Rattle.sources.specs.Heights.{heights_from, count_of, nth_height, counts};
+ghost use Rattle.sources.specs.Heights.{Heights, numbers, in_bytes, count_of, nth_height, counts};
 
 use octets::choices::both;
 use octets::numbers::be16;
 use octets::twos::number_of;
 
-#[derive(Clone, Copy)]
-pub enum Source {
-    // 16-bit numbers
-    Numbers,
-    // two's complement words in bytes, the high byte first
-    Bytes,
+// What a writer's heights come from.
+pub trait Heights: Copy {
+    ghost given: { Self → Heights };
+
+    // Height i of those that are given.
+    fn at(self, i: usize) -> i16
+        requires { i < count_of (given self) }
+        ensures { result ≡ nth_height (given self) i };
+
+    // Whether so many heights are given, and not a byte beside them.
+    fn count_is(self, count: usize) -> bool
+        ensures { result ≡ counts (given self) count };
 }
 
-// Height i of those that are given.
-pub fn height_at(source: Source, numbers: &[i16], bytes: &[u8], i: usize) -> i16
-    requires { i < count_of (heights_from source numbers.now bytes.now) }
-    ensures { result ≡ nth_height (heights_from source numbers.now bytes.now) i }
-{
-    match source {
-        Source::Numbers => numbers[i],
-        Source::Bytes => number_of(be16(bytes, 2 * i)),
+// 16-bit numbers.
+#[derive(Clone, Copy)]
+pub struct Numbers<'a>(pub &'a [i16]);
+
+impl<'a> Heights for Numbers<'a> {
+    ghost given = { λ source. numbers source.0.now };
+
+    fn at(self, i: usize) -> i16 {
+        self.0[i]
+    }
+
+    fn count_is(self, count: usize) -> bool {
+        self.0.len() == count
     }
 }
 
-// Whether so many heights are given, and not a byte beside them. Halved, no count can wrap.
-pub fn count_is(source: Source, numbers: &[i16], bytes: &[u8], count: usize) -> bool
-    ensures { result ≡ counts (heights_from source numbers.now bytes.now) count }
-{
-    match source {
-        Source::Numbers => numbers.len() == count,
-        Source::Bytes => both(bytes.len() % 2 == 0, bytes.len() / 2 == count),
+// Two's complement words in bytes, the high byte first.
+#[derive(Clone, Copy)]
+pub struct Bytes<'a>(pub &'a [u8]);
+
+impl<'a> Heights for Bytes<'a> {
+    ghost given = { λ source. in_bytes source.0.now };
+
+    fn at(self, i: usize) -> i16 {
+        number_of(be16(self.0, 2 * i))
+    }
+
+    // Halved, no count can wrap.
+    fn count_is(self, count: usize) -> bool {
+        both(self.0.len() % 2 == 0, self.0.len() / 2 == count)
     }
 }

@@ -10,10 +10,10 @@ pub mod piece;
 
 use crate::piece::column_answer;
 use answers::{Refusal, Verdict};
-use headers::judge::frame_of;
+use headers::judge::{frame_of, judge};
 use layout::zones::near_edge;
-use layout::{Frame, HEADER_BYTES, Laid};
-use years::{Named, Year, year_of};
+use layout::{Frame, HEADER_BYTES};
+use years::Year;
 
 // The columns still due: of which grid, and which is next.
 #[derive(Clone, Copy)]
@@ -29,7 +29,7 @@ pub struct ColumnsDue {
 pub enum Phase {
     Headers(u32),
     Columns(ColumnsDue),
-    Over(Verdict),
+    Over(Result<Verdict, Refusal>),
 }
 
 #[derive(Clone, Copy)]
@@ -41,24 +41,28 @@ pub struct Steps {
 #[derive(Clone, Copy)]
 pub struct Stepped {
     pub steps: Steps,
-    pub answer: Verdict,
+    pub answer: Result<Verdict, Refusal>,
 }
 
 // What a piece answers where columns are due; any level, edge and number.
-fn columns_answer(due: ColumnsDue, piece: &[u8]) -> Verdict
+fn columns_answer(due: ColumnsDue, piece: &[u8]) -> Result<Verdict, Refusal>
     ensures { told.told told.intake result ≡ said_of (Phase.Columns due) piece.now }
 {
-    let voids = due.voids;
-    let laid = layout::lay(due.level, due.edge);
-    match laid {
-        Laid::Out(grid) => column_answer(Frame { grid, voids }, due.next, piece),
-        Laid::NoLevel => Verdict::Refused(Refusal::OffGrid),
-        Laid::NoZone => Verdict::Refused(Refusal::OffGrid),
+    match layout::lay(due.level, due.edge) {
+        Ok(grid) => column_answer(
+            Frame {
+                grid,
+                voids: due.voids,
+            },
+            due.next,
+            piece,
+        ),
+        Err(_) => Err(Refusal::OffGrid),
     }
 }
 
 // The state in which every later step repeats this answer.
-fn over(answer: Verdict) -> Stepped
+fn over(answer: Result<Verdict, Refusal>) -> Stepped
     ensures { (result.answer ≡ answer) × (result.steps.phase ≡ Phase.Over answer) }
 {
     Stepped {
@@ -74,24 +78,19 @@ fn headers_step(year: Year, piece: &[u8]) -> Stepped
     ensures answer { told.told told.intake result.answer ≡ said_of_headers (judged piece.now) }
     ensures phase { result.steps.phase ≡ after_answer (due_after year (judged piece.now)) result.answer }
 {
-    let judged = headers::judge::judge(piece);
-    match judged {
-        headers::JudgedHeaders::Good(facts) => {
-            let grid = facts.grid;
-            let frame = frame_of(year, facts);
-            Stepped {
-                steps: Steps {
-                    phase: Phase::Columns(ColumnsDue {
-                        level: grid.level,
-                        edge: near_edge(facts.latitude),
-                        voids: frame.voids,
-                        next: 0,
-                    }),
-                },
-                answer: Verdict::More,
-            }
-        }
-        headers::JudgedHeaders::Refused(refusal) => over(Verdict::Refused(refusal)),
+    match judge(piece) {
+        Ok(facts) => Stepped {
+            steps: Steps {
+                phase: Phase::Columns(ColumnsDue {
+                    level: facts.grid.level,
+                    edge: near_edge(facts.latitude),
+                    voids: frame_of(year, facts).voids,
+                    next: 0,
+                }),
+            },
+            answer: Ok(Verdict::More),
+        },
+        Err(refusal) => over(Err(refusal)),
     }
 }
 
@@ -99,9 +98,9 @@ fn headers_step(year: Year, piece: &[u8]) -> Stepped
 fn first_step(named: u32, piece: &[u8]) -> Stepped
     ensures { Step (Phase.Headers named) piece.now result.answer result.steps.phase }
 {
-    match year_of(named) {
-        Named::Rule(year) => headers_step(year, piece),
-        Named::Unknown => over(Verdict::Refused(Refusal::Year(named as usize))),
+    match Year::try_from(named) {
+        Ok(year) => headers_step(year, piece),
+        Err(refusal) => over(Err(refusal)),
     }
 }
 
@@ -110,27 +109,17 @@ fn column_step(due: ColumnsDue, piece: &[u8]) -> Stepped
 {
     let answer = columns_answer(due, piece);
     match answer {
-        Verdict::More => Stepped {
+        Ok(Verdict::More) => Stepped {
             steps: Steps {
                 phase: Phase::Columns(ColumnsDue {
-                    level: due.level,
-                    edge: due.edge,
-                    voids: due.voids,
                     next: due.next + 1,
+                    ..due
                 }),
             },
-            answer: Verdict::More,
+            answer,
         },
-        Verdict::Accepted {
-            level,
-            columns,
-            posts,
-        } => over(Verdict::Accepted {
-            level,
-            columns,
-            posts,
-        }),
-        Verdict::Refused(refusal) => over(Verdict::Refused(refusal)),
+        Ok(Verdict::Accepted { .. }) => over(answer),
+        Err(_) => over(answer),
     }
 }
 
@@ -138,18 +127,15 @@ fn column_step(due: ColumnsDue, piece: &[u8]) -> Stepped
 fn column_wanted(due: ColumnsDue) -> usize
     ensures { (result ≡ wanted (Phase.Columns due)) × (result ≤ 7214) }
 {
-    let laid = layout::lay(due.level, due.edge);
-    match laid {
-        Laid::Out(grid) => {
-            let bytes = grid.bytes;
+    match layout::lay(due.level, due.edge) {
+        Ok(grid) => {
             if due.next < grid.columns {
-                bytes.column
+                grid.bytes.column
             } else {
                 1
             }
         }
-        Laid::NoLevel => 0,
-        Laid::NoZone => 0,
+        Err(_) => 0,
     }
 }
 
@@ -167,8 +153,7 @@ impl Steps {
     pub fn wanted(self) -> usize
         ensures { (result ≡ wanted self.phase) × (result ≤ 7214) }
     {
-        let phase = self.phase;
-        match phase {
+        match self.phase {
             Phase::Headers(_) => HEADER_BYTES,
             Phase::Columns(due) => column_wanted(due),
             Phase::Over(_) => 0,
@@ -179,8 +164,7 @@ impl Steps {
     pub fn step(self, piece: &[u8]) -> Stepped
         ensures { Step self.phase piece.now result.answer result.steps.phase }
     {
-        let phase = self.phase;
-        match phase {
+        match self.phase {
             Phase::Headers(named) => first_step(named, piece),
             Phase::Columns(due) => column_step(due, piece),
             Phase::Over(answer) => over(answer),

@@ -10,12 +10,8 @@ fn judge_under(rt: &impl Print, named: u32, cell: &[u8]) -> io::Result<()> {
 // What the first step answers, and the next one.
 fn print_steps(rt: &impl Print, named: u32, cell: &[u8]) -> io::Result<()> {
     let first = Steps::new(named).step(cell);
-    let answer = first.answer;
-    print_verdict(rt, answer)?;
-    let later = first.steps;
-    let second = later.step(b"");
-    let again = second.answer;
-    print_verdict(rt, again)
+    print_verdict(rt, first.answer)?;
+    print_verdict(rt, first.steps.step(b"").answer)
 }
 
 fn judge_cell(rt: &impl Print, cell: &[u8]) -> io::Result<()> {

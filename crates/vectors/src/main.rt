@@ -3,7 +3,7 @@
 
 ghost use Rattle.std.specs.Prelude.{◌<◌};
 
-use answers::Verdict;
+use answers::{Refusal, Verdict};
 use description::{Accuracies, Accuracy, Datum, Description};
 use layout::HEADER_BYTES;
 use std::io;
@@ -24,7 +24,7 @@ const CELL: usize = 34162;
 const ROOM: usize = 34163;
 
 // The line of a verdict.
-fn print_verdict(rt: &impl Print, verdict: Verdict) -> io::Result<()> {
+fn print_verdict(rt: &impl Print, verdict: Result<Verdict, Refusal>) -> io::Result<()> {
     printing::verdict(&mut io::writer(rt), verdict)
 }
 
@@ -33,10 +33,8 @@ fn print_streamed(rt: &impl Print, level: usize) -> io::Result<()>
     requires { level < 3 }
 {
     let grid = layout::grid_of(level, 0);
-    let bytes = grid.bytes;
-    println!(rt; "{} bytes", bytes.cell)?;
-    let answer = stream::stream(level, grid.columns, grid.posts);
-    print_verdict(rt, answer)
+    println!(rt; "{} bytes", grid.bytes.cell)?;
+    print_verdict(rt, stream::stream(level, grid.columns, grid.posts))
 }
 
 // Intake of the first n bytes.
@@ -82,7 +80,7 @@ fn description(level: usize, longitude: usize, partial: usize) -> Description {
 // Headers of this description over those of the cell, where its items are in range.
 fn put_headers(cell: &mut [u8], d: Description) {
     if HEADER_BYTES <= cell.len() {
-        if description::items::bad_item(d) == 0 {
+        if description::items::bad_item(d).is_none() {
             let facts = description::facts::facts_for(d);
             header_writer::write::put_headers(cell, d, facts.grid);
         }
@@ -97,6 +95,8 @@ fn print_made_up(rt: &impl Print) -> io::Result<()> {
 }
 
 // Reads until the buffer is full, the input ends or a read fails.
+// Kept: beside the intake program's `fill`, which tells a failed read, and std's `read_exact`, which promises nothing of the buffer where the
+// input ends early, as it does here by one byte.
 fn read_full<R: Read>(input: &mut R, buffer: &mut [u8]) {
     let mut done = 0;
     while done < buffer.len() {

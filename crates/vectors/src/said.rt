@@ -1,27 +1,20 @@
 // What the headers of a cell say, printed: the thirteen items as numbers, and the accuracies as they stand.
-use description::Described;
 use host_items::items::ITEMS;
 use layout::HEADER_BYTES;
 use std::io;
-
-// A number behind a blank, with its sign where it is below 0.
-pub fn print_number(rt: &impl Print, z: i64) -> io::Result<()> {
-    print!(rt; " {z}")
-}
 
 // The thirteen numbers in their order, on a line.
 fn print_numbers(rt: &impl Print, numbers: &[i64]) -> io::Result<()> {
     print!(rt; "items")?;
     for z in numbers {
-        print_number(rt, *z)?;
+        print!(rt; " {z}")?;
     }
     println!(rt; "")
 }
 
 // What the headers of a cell say, as numbers.
 pub fn print_items(rt: &impl Print, cell: &[u8]) -> io::Result<()> {
-    let described = description::describe::describe(cell);
-    if let Described::As(d) = described {
+    if let Ok(d) = description::describe::describe(cell) {
         let mut numbers = [0i64; ITEMS];
         host_items::numbers::put_numbers(&mut numbers, d);
         print_numbers(rt, &numbers)?;

@@ -1,6 +1,5 @@
 // The writer over heights: each item out of range in turn, then what else it refuses, and a cell that it writes.
 use crate::{YEAR, print_verdict};
-use answers::{Outcome, Verdict};
 use description::{Accuracies, Accuracy, Datum, Description};
 use std::io;
 
@@ -45,10 +44,9 @@ fn good() -> Description {
 
 // What the writer answers, on a line.
 fn write(rt: &impl Print, out: &mut [u8], d: Description, heights: &[i16]) -> io::Result<()> {
-    let outcome = cell_writer::write(YEAR, out, d, heights);
-    match outcome {
-        Outcome::Done => println!(rt; "done"),
-        Outcome::Refused(refusal) => print_verdict(rt, Verdict::Refused(refusal)),
+    match cell_writer::write(YEAR, out, d, heights) {
+        Ok(()) => println!(rt; "done"),
+        Err(refusal) => print_verdict(rt, Err(refusal)),
     }
 }
 
@@ -60,24 +58,47 @@ fn attempt(rt: &impl Print, d: Description, heights: &[i16]) -> io::Result<()> {
 
 // Items 1 to 6. Item 7 is an enum: no description has a datum out of range.
 fn try_items(rt: &impl Print, heights: &[i16]) -> io::Result<()> {
-    let mut first = good();
-    first.level = 3;
-    attempt(rt, first, heights)?;
-    let mut second = good();
-    second.latitude = 180;
-    attempt(rt, second, heights)?;
-    let mut third = good();
-    third.longitude = 360;
-    attempt(rt, third, heights)?;
-    let mut fourth = good();
-    fourth.security = b'K';
-    attempt(rt, fourth, heights)?;
-    let mut fifth = good();
-    fifth.edition = 100;
-    attempt(rt, fifth, heights)?;
-    let mut sixth = good();
-    sixth.version = b'a';
-    attempt(rt, sixth, heights)
+    attempt(rt, Description { level: 3, ..good() }, heights)?;
+    attempt(
+        rt,
+        Description {
+            latitude: 180,
+            ..good()
+        },
+        heights,
+    )?;
+    attempt(
+        rt,
+        Description {
+            longitude: 360,
+            ..good()
+        },
+        heights,
+    )?;
+    attempt(
+        rt,
+        Description {
+            security: b'K',
+            ..good()
+        },
+        heights,
+    )?;
+    attempt(
+        rt,
+        Description {
+            edition: 100,
+            ..good()
+        },
+        heights,
+    )?;
+    attempt(
+        rt,
+        Description {
+            version: b'a',
+            ..good()
+        },
+        heights,
+    )
 }
 
 // Items 8 to 12, each 10,000 metres.
@@ -98,12 +119,12 @@ fn try_accuracies(rt: &impl Print, heights: &[i16]) -> io::Result<()> {
 
 // Item 13, and two items at once, the two ends and two neighbours: the lower is named.
 fn try_last(rt: &impl Print, heights: &[i16]) -> io::Result<()> {
-    let mut last = good();
-    last.partial = 100;
+    let last = Description {
+        partial: 100,
+        ..good()
+    };
     attempt(rt, last, heights)?;
-    let mut ends = last;
-    ends.level = 3;
-    attempt(rt, ends, heights)?;
+    attempt(rt, Description { level: 3, ..last }, heights)?;
     let uhl = Accuracy::Unknown;
     attempt(
         rt,

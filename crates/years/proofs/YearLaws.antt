@@ -1,15 +1,16 @@
 -- Y1, N17: which numbers name a year, and what stands in front of a call's answer: 17 exactly where the number names none.
+use Rattle.std.specs.Prelude.{Result, Ok, Err}
+use Rattle.answers.specs.declared.Refusal.{Refusal}
+use Rattle.answers.specs.declared.Refusal.TheVariants as because
 use Prim.Native.Nat.{ℕ, ◌≤◌}
 use native.Mathlib.Omega.{arith}
 use mathlib.Core.Path.{◌≡◌, refl, sym, ap, subst, ◌∙◌}
 use mathlib.Core.List.{List}
 use borrow.Author.Tests.{ne_eqb}
 use Rattle.octets.proofs.ChoiceLaws.{by_equal}
-use Rattle.answers.specs.Told.{Told, refused}
+use Rattle.answers.specs.Told.{Told, refused, numbered}
 use Rattle.years.specs.declared.Year.{Year}
 use Rattle.years.specs.declared.Year.TheVariants.{One, Two}
-use Rattle.years.specs.declared.Named.{Named}
-use Rattle.years.specs.declared.Named.TheVariants.{Rule, Unknown}
 use Rattle.years.specs.Years.{named_of, Names, NamesNone, by_named, under, left_under}
 
 -- 1 and 2 name the two years, and no other number names any
@@ -35,22 +36,28 @@ named_low n year e =
 
 -- and it names no other
 pub names_one : (n : ℕ) (a b : Year) → Names n a → Names n b → a ≡ b
-names_one n a b e f = let same : Rule a ≡ Rule b = sym e ∙ f in cc
+names_one n a b e f = let same : ◌≡◌ {A = Result Year Refusal} (Ok a) (Ok b) = sym e ∙ f in cc
 
 -- by cases on what a number names
-by_name : {C : Type 0} (n : ℕ) (m : Named) → named_of n ≡ m → (NamesNone n → C) → ((year : Year) → Names n year → C) → C
-by_name n Unknown e f g = f e
-by_name n (Rule year) e f g = g year e
-
 pub by_year : {C : Type 0} (n : ℕ) → (NamesNone n → C) → ((year : Year) → Names n year → C) → C
-by_year n f g = by_name n (named_of n) refl f g
+by_year n f g =
+    by_equal n 1
+    (λ one. g One (ap named_of one ∙ one_named))
+    (λ not-one. by_equal n 2 (λ two. g Two (ap named_of two ∙ two_named)) (λ not-two. f (no_other_named n not-one not-two)))
+
+-- the refusal where it names none is 17
+pub refused_year : (n : ℕ) (r : Refusal) → Err r ≡ named_of n → r ≡ because.Year n
+refused_year n r e =
+    by_year n
+    (λ none. let same : ◌≡◌ {A = Result Year Refusal} (Err r) (Err (because.Year n)) = e ∙ none in cc)
+    (λ year named. let clash = e ∙ named in let z : ◌≡◌ {A = ℕ} 0 1 = cc in absurd (omega arith))
 
 -- what there is under a name: of the year that is named, or instead
 pub named_is : {A : Type 0} (n : ℕ) (year : Year) → Names n year → (instead : A) (call : Year → A) → by_named (named_of n) instead call ≡ call year
-named_is n year e instead call = ap (λ (m : Named). by_named m instead call) e
+named_is n year e instead call = ap (λ (m : Result Year Refusal). by_named m instead call) e
 
 pub none_is : {A : Type 0} (n : ℕ) → NamesNone n → (instead : A) (call : Year → A) → by_named (named_of n) instead call ≡ instead
-none_is n e instead call = ap (λ (m : Named). by_named m instead call) e
+none_is n e instead call = ap (λ (m : Result Year Refusal). by_named m instead call) e
 
 -- so of what a call tells, and of the bytes that it leaves
 module _ (n : ℕ) (tells : Year → Told) where
@@ -59,6 +66,10 @@ module _ (n : ℕ) (tells : Year → Told) where
 
   pub under_named : (year : Year) → Names n year → under n tells ≡ tells year
   under_named year e = named_is n year e (refused 17 n) tells
+
+  -- and by the refusal that a call is left with
+  pub under_refused : (r : Refusal) → Err r ≡ named_of n → numbered r ≡ under n tells
+  under_refused r e = let none = refused_year n r e in ap numbered none ∙ sym (under_none (sym e ∙ ap Err none))
 
 module _ (n : ℕ) (s : List ℕ) (leaves : Year → List ℕ) where
   pub left_named : (year : Year) → Names n year → left_under n s leaves ≡ leaves year

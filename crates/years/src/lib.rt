@@ -4,28 +4,27 @@
 ghost use Rattle.std.specs.Prelude.{◌≡◌};
 ghost use Rattle.years.specs.Years.{named_of};
 
+use answers::Refusal;
+
 #[derive(Clone, Copy)]
 pub enum Year {
     One,
     Two,
 }
 
-// What a number names: a year whose rules there are, or none.
-#[derive(Clone, Copy)]
-pub enum Named {
-    Rule(Year),
-    Unknown,
-}
+// The year that a number names, or 17; any number.
+impl TryFrom<u32> for Year {
+    type Error = Refusal;
 
-// The year that a number names; any number.
-pub fn year_of(named: u32) -> Named
-    ensures { result ≡ named_of named }
-{
-    if named == 1 {
-        return Named::Rule(Year::One);
+    ghost try_from_gives = { λ named result. result ≡ named_of named };
+
+    fn try_from(named: u32) -> Result<Year, Refusal> {
+        if named == 1 {
+            return Ok(Year::One);
+        }
+        if named == 2 {
+            return Ok(Year::Two);
+        }
+        Err(Refusal::Year(named as usize))
     }
-    if named == 2 {
-        return Named::Rule(Year::Two);
-    }
-    Named::Unknown
 }

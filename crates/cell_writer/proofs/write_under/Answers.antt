@@ -1,46 +1,42 @@
 -- `write_under` of a cell: the lowest bad item, or as it is written under items in range.
+use Rattle.std.specs.Prelude.{None}
 use Rattle.answers.specs.Told.{told, act}
-use Rattle.answers.specs.declared.Outcome.{Outcome}
 use Rattle.description.proofs.RangedItems.{item_exactly}
 use Rattle.description.specs.Items.{bad_item}
-use Rattle.sources.specs.Heights.{numbers, heights_of}
+use Rattle.sources.specs.Heights.{numbers}
 use Rattle.sources.proofs.HeightLaws.{numbers_are}
-use Rattle.column_writer.specs.Judged.{output_after}
 use Rattle.cell_writer.proofs.CellExactly.{items_fine}
-use Rattle.cell_writer.proofs.ItemExactly.{found_bad}
-use Rattle.cell_writer.specs.Cell.{frame_for, judged_under, judged_cell_write, cell_of, cell_told, cell_output}
-use lib.IntN.{ℤ}
+use Rattle.cell_writer.specs.Cell.{judged_cell_write, cell_told, cell_output}
 use lib.ListN.{length}
-use mathlib.Core.List.{List}
 use mathlib.Core.Path.{◌≡◌, sym, ap, ◌∙◌}
-use native.Mathlib.Omega.{arith}
 use Rattle.cell_writer.proofs.write_under.Goals as goal
-use Rattle.cell_writer.proofs.write_under.Goals.{Else-item-ne0}
+use Rattle.cell_writer.proofs.write_under.Goals.{In_default}
 
 -- no item is out of range
-no_bad : (c : Else-item-ne0) → bad_item c.args.d ≡ 0
-no_bad c = sym c.bad_item-item.ensures ∙ omega (arith, c.if-item-ne0.false)
+no_bad : (c : In_default) → bad_item c.args.d ≡ None
+no_bad c = sym c.bad_item.ensures ∙ c.in_default.is
 
-pub returns-then-item-ne0 : goal.returns-then-item-ne0
-unfolding cell_told cell_output judged_cell_write
-returns-then-item-ne0 c =
-    let a = c.args in
-    let refused = found_bad c.bad_item-item.result (bad_item a.d) (judged_under (frame_for a.year a.d) (numbers a.heights.now) (length a.out.now)) c.bad_item-item.ensures c.if-item-ne0.true in
-    record { answer = ap (told act) refused; lent = ap (λ (x : Outcome). output_after x (cell_of a.d a.heights.now) a.out.now) refused }
+pub returns-in-Some-clause-answer : goal.returns-in-Some-clause-answer
+unfolding cell_told judged_cell_write
+returns-in-Some-clause-answer c = rw (sym c.bad_item.ensures ∙ c.in-Some.is)
+
+pub returns-in-Some-clause-lent : goal.returns-in-Some-clause-lent
+unfolding cell_output judged_cell_write
+returns-in-Some-clause-lent c = rw (sym c.bad_item.ensures ∙ c.in-Some.is)
 
 pub write_ranged-requires : goal.write_ranged-requires
-write_ranged-requires c = (item_exactly c.args.d).0.0 (no_bad (goal.at.write_ranged-requires c).Else-item-ne0)
+write_ranged-requires c = (item_exactly c.args.d).0.0 (no_bad (goal.at.write_ranged-requires c).In_default)
 
-pub returns : goal.returns
-unfolding cell_told cell_output
-returns c =
+pub returns-clause-answer : goal.returns-clause-answer
+unfolding cell_told
+returns-clause-answer c =
     let a = c.args in
-    let g = numbers a.heights.now in
-    let judged = sym (items_fine a.year a.d g (length a.out.now) (no_bad (goal.at.returns c).Else-item-ne0)) in
-    record {
-      answer = ap (told act) (c.write_ranged.ensures.answer ∙ judged);
-      lent =
-          c.write_ranged.ensures.lent
-          ∙ ap (λ (x : Outcome). output_after x (cell_of a.d (heights_of g)) a.out.now) judged
-          ∙ ap (λ (zs : List ℤ). output_after (judged_cell_write a.year a.d g (length a.out.now)) (cell_of a.d zs) a.out.now) (numbers_are a.heights.now);
-    }
+    rw (items_fine a.year a.d (numbers a.heights.now) (length a.out.now) (no_bad (goal.at.returns-clause-answer c).In_default))
+    (ap (told act) c.write_ranged.ensures.answer)
+
+pub returns-clause-lent : goal.returns-clause-lent
+unfolding cell_output
+returns-clause-lent c =
+    let a = c.args in
+    rw (items_fine a.year a.d (numbers a.heights.now) (length a.out.now) (no_bad (goal.at.returns-clause-lent c).In_default))
+    (rw (numbers_are a.heights.now) at c.write_ranged.ensures.lent)

@@ -14,9 +14,9 @@ found : (c : After-is_allowed) →
     word_allowed a.voids (word_in a.column.now c.loop-i.i) ≡ c.is_allowed.result
 found c = sym (rw (c.be16.ensures, c.word_at-at.ensures) at c.is_allowed.ensures)
 
-pub returns-in-Refused : goal.returns-in-Refused
+pub returns-in_err-judge_head : goal.returns-in_err-judge_head
 unfolding judged_column
-returns-in-Refused c = rw (← c.judge_head-head.ensures, c.in-Refused.is)
+returns-in_err-judge_head c = rw (← c.in_err-judge_head.ensures) (search rules)
 
 pub loop-i-init : goal.loop-i-init
 unfolding judged_column
@@ -25,7 +25,7 @@ loop-i-init c =
     rw c.search_from-i.ensures (
       starts_within a.posts c.measure-measured.result.allowed,
       searched_from a.column.now a.voids a.base a.posts c.measure-measured.result.allowed c.measure-measured.ensures.allowed
-          ∙ rw (← c.judge_head-head.ensures, c.in_default.is),
+          ∙ rw (← c.in_ok-judge_head.ensures),
     )
 
 pub returns-then-not-is_allowed : goal.returns-then-not-is_allowed

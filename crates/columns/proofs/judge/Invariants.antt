@@ -5,6 +5,3 @@ use Rattle.columns.proofs.judge.Given as goal
 
 abbrev pub invariant-loop-i : goal.invariant-loop-i
 invariant-loop-i l = (l.i ≤ l.posts) × (words_from l.column l.voids l.base l.i (l.posts - l.i) ≡ judged_column l.column l.number l.posts l.voids l.base)
-
-abbrev pub decreases-loop-i : goal.decreases-loop-i
-decreases-loop-i l = l.posts - l.i

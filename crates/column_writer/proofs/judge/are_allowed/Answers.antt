@@ -11,41 +11,38 @@ use mir.Val.{to_z, of_z}
 use Rattle.octets.proofs.ExtremeLaws.{at_least, at_most}
 use Rattle.posts.specs.Spans.{counted_as, span_in_range}
 use Rattle.posts.proofs.SpanLaws.{span_none}
-use Rattle.sources.specs.Heights.{heights_from, nth_height}
+use Rattle.sources.specs.Heights.{nth_height}
 use Rattle.column_writer.proofs.HeightParts.{height_more, heights_judged}
+use Rattle.column_writer.proofs.judge.are_allowed.Given.{Over}
 use Rattle.column_writer.proofs.judge.are_allowed.Goals as goal
 use Rattle.column_writer.proofs.judge.are_allowed.Goals.{After-counted-height}
 
 -- the height that was read counts as the definition says
-counts : (c : After-counted-height) →
+counts : (g : Over) (c : After-counted-height g) →
     let a = c.args in
-    to_z w16 (of_z w16 c.counted-height.result) ≡ counted_as a.voids (nth_height (heights_from a.source a.numbers.now a.bytes.now) (a.from + c.loop-i.i))
-counts c =
+    to_z w16 (of_z w16 c.counted-height.result) ≡ counted_as a.voids (nth_height (g.H.Heights.given a.heights) (a.from + c.loop-i.i))
+counts g c =
     to_z-of_z {w = w16} (record { sfits = c.counted-height.type_inv })
-    ∙ rw (to_z-of_z {w = w16} (record { sfits = c.height_at.type_inv }), c.height_at.ensures) at c.counted-height.ensures
+    ∙ rw (to_z-of_z {w = w16} (record { sfits = c.at.type_inv }), c.at.ensures) at c.counted-height.ensures
 
 pub loop-i-init : goal.loop-i-init
-loop-i-init c = (omega arith, rw (span_none, add-zero, sub-zero))
+loop-i-init g c = rw (span_none, add-zero, sub-zero)
 
 pub loop-i-preserved : goal.loop-i-preserved
-loop-i-preserved c =
+loop-i-preserved g c =
     let a = c.args in
     let l = c.loop-i in
-    let g = heights_from a.source a.numbers.now a.bytes.now in
-    let k = counts (goal.at.loop-i-preserved c).After-counted-height in (
-      omega arith,
-      rw (to_z-of_z {w = w16} {z = c.smaller-lowest.result} (record { sfits = c.smaller-lowest.type_inv }), to_z-of_z {w = w16} {z = c.larger-highest.result} (record { sfits = c.larger-highest.type_inv }))
-          (height_more a.voids g a.from l.i a.n (omega arith) (to_z w16 l.lowest-bits) (to_z w16 l.highest-bits) c.smaller-lowest.result c.larger-highest.result
-          (λ least. rw k at (ap (λ (z : ℤ). le_z least z) c.smaller-lowest.ensures ∙ at_least _ _ least))
-          (λ most. rw k at (ap (λ (z : ℤ). le_z z most) c.larger-highest.ensures ∙ at_most _ _ most))
-          ∙ l.invariant.1),
-    )
+    let k = counts g (goal.at.loop-i-preserved g c).After-counted-height in
+    rw (to_z-of_z {w = w16} {z = c.smaller-lowest.result} (record { sfits = c.smaller-lowest.type_inv }), to_z-of_z {w = w16} {z = c.larger-highest.result} (record { sfits = c.larger-highest.type_inv }))
+    (height_more a.voids (g.H.Heights.given a.heights) a.from l.i a.n (omega arith) (to_z w16 l.lowest-bits) (to_z w16 l.highest-bits) c.smaller-lowest.result c.larger-highest.result
+    (λ least. rw k at (ap (λ (z : ℤ). le_z least z) c.smaller-lowest.ensures ∙ at_least _ _ least))
+    (λ most. rw k at (ap (λ (z : ℤ). le_z z most) c.larger-highest.ensures ∙ at_most _ _ most)))
+    ∙ l.invariant
 
 pub returns : goal.returns
-returns c =
+returns g c =
     let a = c.args in
     let l = c.loop-i in
-    let g = heights_from a.source a.numbers.now a.bytes.now in
     c.in_range.ensures
-    ∙ sym (heights_judged a.voids g a.from l.i a.n c.loop-i-test.false (span_in_range (to_z w16 l.lowest-bits) (to_z w16 l.highest-bits)))
-    ∙ l.invariant.1
+    ∙ sym (heights_judged a.voids (g.H.Heights.given a.heights) a.from l.i a.n c.loop-i-test.false (span_in_range (to_z w16 l.lowest-bits) (to_z w16 l.highest-bits)))
+    ∙ l.invariant

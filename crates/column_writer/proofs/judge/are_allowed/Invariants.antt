@@ -1,16 +1,12 @@
 -- `are_allowed`: the span so far and what is left of the heights answer as all of them.
-use Prim.Native.Nat.{◌+◌, ◌-◌, ◌≤◌}
+use Prim.Native.Nat.{◌+◌, ◌-◌}
 use mathlib.Core.Path.{◌≡◌}
 use Rattle.octets.specs.Choice.{both}
 use Rattle.posts.specs.Spans.{span_in_range}
-use Rattle.sources.specs.Heights.{heights_from}
 use Rattle.column_writer.specs.Judged.{heights_allowed}
 use Rattle.column_writer.proofs.judge.are_allowed.Given as goal
 
 abbrev pub invariant-loop-i : goal.invariant-loop-i
-invariant-loop-i l =
-    let g = heights_from l.source l.numbers l.bytes in
-    (l.i ≤ l.n) × (both (span_in_range l.lowest l.highest) (heights_allowed l.voids g (l.from + l.i) (l.n - l.i)) ≡ heights_allowed l.voids g l.from l.n)
-
-abbrev pub decreases-loop-i : goal.decreases-loop-i
-decreases-loop-i l = l.n - l.i
+invariant-loop-i g l =
+    let heights = g.H.Heights.given l.heights in
+    both (span_in_range l.lowest l.highest) (heights_allowed l.voids heights (l.from + l.i) (l.n - l.i)) ≡ heights_allowed l.voids heights l.from l.n

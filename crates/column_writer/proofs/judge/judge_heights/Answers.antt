@@ -1,31 +1,33 @@
 -- `judge_heights`: what is left after the parts so far answers as all heights.
+use Rattle.std.proofs.Common.{◌≡◌, ◌-◌, Ok, sym, ◌∙◌, arith}
 use native.Mathlib.Nat.{sub-zero}
-use native.Mathlib.Omega.{arith}
-use mathlib.Core.Path.{sym, ◌∙◌}
-use borrow.Author.Rules.{rules}
-use borrow.Author.Tests.{not-false}
-use Rattle.sources.specs.Heights.{heights_from}
-use Rattle.column_writer.specs.Judged.{heights_then, room_for}
-use Rattle.column_writer.proofs.HeightParts.{part_passed, all_passed}
+use Rattle.octets.proofs.SearchLaws.{search_end}
+use Rattle.column_writer.specs.Judged.{heights_then}
+use Rattle.column_writer.proofs.HeightParts.{test, refusal, part_passed, all_passed}
 use Rattle.column_writer.proofs.judge.judge_heights.Goals as goal
 
-pub loop-i-init : goal.loop-i-init
+pub loop-from-init : goal.loop-from-init
 unfolding heights_then
-loop-i-init c = (omega arith, rw sub-zero)
+loop-from-init g c = rw sub-zero
 
-pub loop-i-preserved : goal.loop-i-preserved
-loop-i-preserved c =
+-- a whole part
+pub loop-from-preserved : goal.loop-from-preserved
+loop-from-preserved g c =
     let a = c.args in
-    let g = heights_from a.source a.numbers.now a.bytes.now in (
-      omega arith,
-      sym (part_passed a.voids g c.loop-i.i 1024 a.posts (room_for a.due a.room) (omega arith) (sym c.are_allowed.ensures ∙ not-false _ (search rules)))
-          ∙ c.loop-i.invariant.1,
-    )
+    let n : c.min.result ≡ 1024 = omega (arith, c.min.ensures) in
+    sym (part_passed a.voids (g.H.Heights.given a.heights) c.loop-from.from 1024 a.posts (Ok tt) (omega arith) (rw n at (sym c.are_allowed.ensures ∙ c.if-not-are_allowed.false)))
+    ∙ c.loop-from.invariant
 
+-- no part at all
 pub returns : goal.returns
-returns c =
+returns g c =
     let a = c.args in
-    let g = heights_from a.source a.numbers.now a.bytes.now in
-    c.judge_room.ensures
-    ∙ sym (all_passed a.voids g c.loop-i.i a.posts (room_for a.due a.room) c.loop-i.invariant.0 (sym c.are_allowed-2.ensures ∙ not-false _ (search rules)))
-    ∙ c.loop-i.invariant.1
+    sym (search_end (test a.voids (g.H.Heights.given a.heights)) refusal (Ok tt) c.loop-from.from a.posts c.loop-from-test.false) ∙ c.loop-from.invariant
+
+-- the last part
+pub returns-else-not-are_allowed : goal.returns-else-not-are_allowed
+returns-else-not-are_allowed g c =
+    let a = c.args in
+    let n : c.min.result ≡ a.posts - c.loop-from.from = omega (arith, c.min.ensures) in
+    sym (all_passed a.voids (g.H.Heights.given a.heights) c.loop-from.from a.posts (Ok tt) (omega arith) (rw n at (sym c.are_allowed.ensures ∙ c.if-not-are_allowed.false)))
+    ∙ c.loop-from.invariant

@@ -7,6 +7,6 @@ pub returns-then-room-due : goal.returns-then-room-due
 unfolding room_for
 returns-then-room-due c = simp (lt-leb _ _ c.if-room-due.true)
 
-pub returns-else-room-due : goal.returns-else-room-due
+pub returns : goal.returns
 unfolding room_for
-returns-else-room-due c = simp (le-leb _ _ c.if-room-due.false)
+returns c = simp (le-leb _ _ c.if-room-due.false)

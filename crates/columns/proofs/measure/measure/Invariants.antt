@@ -11,8 +11,5 @@ pub record Measured (column : List ℕ) (posts : ℕ) (voids : Bool) (total : �
   pub summed : total + sum_of (drop (8 + 2 * i) column) ≡ sum_of column
   pub left : both allowed (words_allowed voids column (8 + 2 * i) (posts - i)) ≡ words_allowed voids column 8 posts
 
-abbrev pub invariant-loop-i : goal.invariant-loop-i
-invariant-loop-i l = Measured l.column l.posts l.voids l.total l.allowed l.i
-
-abbrev pub decreases-loop-i : goal.decreases-loop-i
-decreases-loop-i l = l.posts - l.i
+abbrev pub invariant-loop-part : goal.invariant-loop-part
+invariant-loop-part l = Measured l.column l.posts l.voids l.total l.allowed (l.part * 256)

@@ -7,13 +7,14 @@ use Rattle.octets.proofs.JoinedLaws.{length_listed}
 use Rattle.octets.specs.Numbers.{bytes_of, bytes_of_words}
 use Rattle.octets.specs.Pastes.{pasted}
 use Rattle.octets.specs.Sums.{sum_of}
-use Rattle.sources.specs.Heights.{Heights, heights_from, height_words}
+use Rattle.sources.specs.Heights.{Heights, height_words}
+use Rattle.columns.proofs.write.put_column.Given.{Over}
 use Rattle.columns.proofs.write.put_column.Goals as goal
 use Rattle.columns.proofs.write.put_column.Goals.{After-put_words-words}
 
-module _ (c : After-put_words-words) where
+module _ (g : Over) (c : After-put_words-words g) where
   abbrev given : Heights
-  given = heights_from c.args.source c.args.numbers.now c.args.bytes.now
+  given = g.H.Heights.given c.args.heights
 
   abbrev words : List ℕ
   words = height_words given c.args.first c.args.posts
@@ -30,17 +31,17 @@ module _ (c : After-put_words-words) where
       ∙ ap (λ (l : List ℕ). pasted l 8 (bytes_of_words words)) c.put_preamble.ensures
 
 pub overflow_add-before : goal.overflow_add-before
-overflow_add-before c =
-    let p = (goal.at.overflow_add-before c).After-put_words-words in
+overflow_add-before g c =
+    let p = (goal.at.overflow_add-before g c).After-put_words-words in
     let a = c.args in
-    omega (arith, summed p, preamble_most a.number, c.put_words-words.ensures.summed, sum_most (given p) a.first a.posts, c.requires.few)
+    omega (arith, summed g p, preamble_most a.number, c.put_words-words.ensures.summed, sum_most (given g p) a.first a.posts, c.requires.few)
 
 pub returns : goal.returns
-returns c =
-    let p = (goal.at.returns c).After-put_words-words in
+returns g c =
+    let p = (goal.at.returns g c).After-put_words-words in
     let a = c.args in
     let total = c.sum-before.result + c.put_words-words.result in
     rw c.sum_at.ensures at c.put32.ensures
-    ∙ ap (λ (l : List ℕ). pasted l (sum_at a.posts) (bytes_of 4 total)) (words_put p)
-    ∙ column_put a.out.now a.number (words p) a.posts (length_listed _ a.posts) c.requires.long total
-    (omega (arith, summed p, c.put_words-words.ensures.summed))
+    ∙ ap (λ (l : List ℕ). pasted l (sum_at a.posts) (bytes_of 4 total)) (words_put g p)
+    ∙ column_put a.out.now a.number (words g p) a.posts (length_listed _ a.posts) c.requires.long total
+    (omega (arith, summed g p, c.put_words-words.ensures.summed))

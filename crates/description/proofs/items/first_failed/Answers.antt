@@ -1,18 +1,14 @@
--- `first_failed`: the tests that are left give the number that all give.
-use Rattle.description.proofs.RangedItems.{failed_on, failed_here, failed_done}
-use mathlib.Core.Bool.{false}
-use mathlib.Core.Path.{sym, ◌∙◌}
-use native.Mathlib.Omega.{arith}
+-- `first_failed`: the first test that fails, counted from 1.
+use Rattle.std.proofs.Common.{◌≡◌, ◌∙◌, ◌+◌, ℕ, Bool, true, false, rules}
+use Rattle.std.specs.Option.{option_map}
+use Rattle.std.proofs.lemmas.Iterator.{IsFirst-from_position, YieldsList-from_slice}
+use borrow.Author.Tests.{tests}
+use Rattle.description.proofs.RangedItems.{counted}
 use Rattle.description.proofs.items.first_failed.Goals as goal
-
-pub returns-then-not-tests-i : goal.returns-then-not-tests-i
-returns-then-not-tests-i c =
-    sym (c.loop-i.invariant.1 ∙ failed_here c.args.tests.now c.loop-i.i _ (omega arith) c.if-not-tests-i.true)
-
-pub loop-i-preserved : goal.loop-i-preserved
-loop-i-preserved c =
-    (omega arith, c.loop-i.invariant.1 ∙ failed_on c.args.tests.now c.loop-i.i _ (omega arith) c.if-not-tests-i.false)
 
 pub returns : goal.returns
 returns c =
-    sym (c.loop-i.invariant.1 ∙ failed_done c.args.tests.now c.loop-i.i false (omega arith))
+    let found = IsFirst-from_position _ _ c.position.result (λ (t : Bool). t ≡ false) (λ (t : Bool). t ≡ true) c.position.ensures.ran
+    (YieldsList-from_slice c.args.tests.now cc) (λ x q k. search (rules, tests)) (λ x q k. search (rules, tests)) in
+    let next : c.map.result ≡ option_map (λ (i : ℕ). i + 1) c.position.result = search rules in
+    next ∙ counted c.args.tests.now c.position.result found

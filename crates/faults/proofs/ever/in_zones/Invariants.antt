@@ -1,5 +1,5 @@
 -- `in_zones`: no zone so far has the number.
-use Prim.Native.Nat.{ℕ, ◌-◌, ◌≤◌}
+use Prim.Native.Nat.{ℕ}
 use mathlib.Core.Path.{◌≡◌}
 use mathlib.Core.Bool.{false}
 use lib.Dec.{eqb}
@@ -10,7 +10,4 @@ use Rattle.due.specs.Due.{number_of}
 use Rattle.faults.proofs.ever.in_zones.Given as goal
 
 abbrev pub invariant-loop-zone : goal.invariant-loop-zone
-invariant-loop-zone l = (l.zone ≤ 5) × (some_below (λ (zone : ℕ). eqb (number_of l.name (grid_of l.level (last_edge zone))) l.v) l.zone ≡ false)
-
-abbrev pub decreases-loop-zone : goal.decreases-loop-zone
-decreases-loop-zone l = 5 - l.zone
+invariant-loop-zone l = some_below (λ (zone : ℕ). eqb (number_of l.name (grid_of l.level (last_edge zone))) l.v) l.zone ≡ false

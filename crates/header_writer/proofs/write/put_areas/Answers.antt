@@ -9,17 +9,12 @@ use mathlib.Core.Path.{sym, ap, ◌∙◌}
 use native.Mathlib.Omega.{arith}
 use Rattle.header_writer.proofs.write.put_areas.Goals as goal
 
-pub loop-i-preserved : goal.loop-i-preserved
-loop-i-preserved c =
-    let i = c.loop-i.invariant.1 in (
-      omega arith,
-      (
-        c.fill.auto.dst ∙ i.0,
-        ap (λ (s : List ℕ). with_areas s (drop (c.loop-i.i + 1) areas)) c.fill.ensures
-            ∙ (sym (areas_on c.loop-i.head c.loop-i.i (omega arith)) ∙ i.1),
-      ),
+pub loop-area-preserved : goal.loop-area-preserved
+loop-area-preserved c =
+    let i = c.loop-area.area-index in (
+      c.fill.auto.dst ∙ c.loop-area.invariant.0,
+      ap (λ (s : List ℕ). with_areas s (drop (i + 1) areas)) c.fill.ensures ∙ sym (areas_on c.loop-area.head i (omega arith)) ∙ c.loop-area.invariant.1,
     )
 
 pub returns : goal.returns
-returns c =
-    sym (areas_done c.loop-i.head c.loop-i.i (omega arith)) ∙ c.loop-i.invariant.1.1
+returns c = sym (areas_done c.loop-area.head c.loop-area.area-index (omega arith)) ∙ c.loop-area.invariant.1

@@ -1,82 +1,80 @@
 -- `judge`: the first four rows, then what they make due, then the rest.
+use Rattle.std.specs.Prelude.{Some, Ok, Err}
 use Rattle.headers.proofs.FirstFour.{nothing_ranged, Fixed, basis_within}
-use Rattle.headers.proofs.TwoParts.{early_refused, early_fixed, late_refused, all_kept}
+use Rattle.headers.proofs.TwoParts.{early_below, early_refused, early_fixed, late_refused, all_kept}
 use Rattle.headers.specs.Basis.{basis_in}
 use Rattle.headers.specs.Judged.{facts_in}
 use Rattle.due.specs.Due.{nothing}
-use Rattle.headers.specs.declared.JudgedHeaders.TheVariants.{Good, Refused}
-use native.Mathlib.Omega.{arith}
+use Rattle.rules.specs.Asked.{BasisInRange}
+use Rattle.std.proofs.Common.{arith}
 use Rattle.headers.proofs.Exactly.{judged_short}
-use mathlib.Core.Path.{◌≡◌, refl, sym, ap, ◌∙◌}
 use mathlib.Core.Bool.{true}
-use borrow.Author.Tests.{not-true, not-false}
-use Rattle.headers.proofs.KeptRows.{kept_in, one_broken}
+use mathlib.Core.Path.{◌≡◌, refl, sym, ap, ◌∙◌}
+use Rattle.headers.proofs.KeptRows.{kept_in, none_kept}
+use Rattle.headers.proofs.BrokenRows.{first_in, row_found}
 use Rattle.headers.proofs.judge.judge.Goals as goal
-use Rattle.headers.proofs.judge.judge.Goals.{After-rest_keep, Else-not-four_keep}
+use Rattle.headers.proofs.judge.judge.Goals.{After-basis_in-basis, In-Some-first_broken, In_default, In_default-first_broken}
 
--- the first four rows keep their rules
-four-kept : (c : Else-not-four_keep) → kept_in c.args.s.now nothing 0 4 ≡ true
-four-kept c = sym c.four_keep.ensures ∙ not-false _ c.if-not-four_keep.false-raw
+-- the first four rows keep their rules, and fix what is due, which is in range
+four-kept : (c : In_default) → kept_in c.args.s.now nothing 0 4 ≡ true
+four-kept c = none_kept _ nothing 4 0 (sym c.first_broken.ensures ∙ c.in_default.is)
 
-fixed-here : (c : Else-not-four_keep) → Fixed c.args.s.now
+fixed-here : (c : In_default) → Fixed c.args.s.now
 fixed-here c = early_fixed _ c.if-s-lt-HEADER_BYTES.false nothing (four-kept c)
 
--- the rest are judged by what those make due
-rest-found : (c : After-rest_keep) → let s = c.args.s.now in
-    c.rest_keep.result ≡ kept_in s (basis_in s) 4 36
-rest-found c = rw c.basis_in-basis.ensures at c.rest_keep.ensures
+basis-ranged : (c : After-basis_in-basis) → Fixed c.args.s.now → BasisInRange c.basis_in-basis.result
+basis-ranged c f = rw c.basis_in-basis.ensures (basis_within _ f)
+
+-- one of the rest breaks its rule, or none does
+rest-broken : (c : In-Some-first_broken) → let s = c.args.s.now in
+    first_in s (basis_in s) 4 36 ≡ Some c.in-Some-first_broken.row
+rest-broken c = sym (rw c.basis_in-basis.ensures at c.in-Some-first_broken.ensures)
+
+rest-kept : (c : In_default-first_broken) → let s = c.args.s.now in
+    kept_in s (basis_in s) 4 36 ≡ true
+rest-kept c = none_kept _ _ 36 4 (sym (rw c.basis_in-basis.ensures at c.first_broken-2.ensures) ∙ c.in_default-first_broken.is)
 
 pub returns-then-s-lt-HEADER_BYTES : goal.returns-then-s-lt-HEADER_BYTES
 returns-then-s-lt-HEADER_BYTES c = sym (judged_short _ c.if-s-lt-HEADER_BYTES.true)
 
 pub broken-requires : goal.broken-requires
-broken-requires c =
-    let s = c.args.s.now in
-    record {
-      below = rw c.first_broken-row.ensures (omega (arith, one_broken s nothing 4 4 0 refl (sym c.four_keep.ensures ∙ not-true _ c.if-not-four_keep.true-raw)));
-      whole = omega arith;
-      basis = nothing_ranged;
-    }
+broken-requires c = record { below = omega (arith, early_below c.args.s.now c.if-s-lt-HEADER_BYTES.false nothing c.in-Some.row (sym c.in-Some.ensures)); whole = omega arith; basis = nothing_ranged }
 
-pub returns-then-not-four_keep : goal.returns-then-not-four_keep
-returns-then-not-four_keep c =
-    let s = c.args.s.now in
-    ap Refused (c.broken.ensures ∙ rw c.first_broken-row.ensures)
-    ∙ sym (early_refused s c.if-s-lt-HEADER_BYTES.false nothing (sym c.four_keep.ensures ∙ not-true _ c.if-not-four_keep.true-raw))
+pub returns-in-Some : goal.returns-in-Some
+returns-in-Some c = ap Err c.broken.ensures ∙ sym (early_refused _ c.if-s-lt-HEADER_BYTES.false nothing c.in-Some.row (sym c.in-Some.ensures))
 
 pub basis_in-basis-requires : goal.basis_in-basis-requires
-basis_in-basis-requires c = record { whole = c.if-s-lt-HEADER_BYTES.false; latitude = (fixed-here c).latitude }
+basis_in-basis-requires c = record { whole = c.if-s-lt-HEADER_BYTES.false; latitude = (fixed-here (goal.at.basis_in-basis-requires c).In_default).latitude }
 
--- what is due is in range
-pub rest_keep-requires : goal.rest_keep-requires
-rest_keep-requires c = record { ordered = omega arith; rows = omega arith; whole = omega arith; basis = rw c.basis_in-basis.ensures (basis_within _ (fixed-here (goal.at.rest_keep-requires c).Else-not-four_keep)) }
+pub first_broken-requires-2 : goal.first_broken-requires-2
+first_broken-requires-2 c =
+    let at = goal.at.first_broken-requires-2 c in
+    record { ordered = omega arith; rows = omega arith; whole = omega arith; basis = basis-ranged at.After-basis_in-basis (fixed-here at.In_default) }
 
-pub first_broken-row-requires-then-not-rest_keep : goal.first_broken-row-requires-then-not-rest_keep
-first_broken-row-requires-then-not-rest_keep c =
-    record { ordered = omega arith; rows = omega arith; whole = omega arith; basis = rw c.basis_in-basis.ensures (basis_within _ (fixed-here (goal.at.first_broken-row-requires-then-not-rest_keep c).Else-not-four_keep)) }
-
-pub broken-requires-then-not-rest_keep : goal.broken-requires-then-not-rest_keep
-broken-requires-then-not-rest_keep c =
+pub broken-requires-in-Some-first_broken : goal.broken-requires-in-Some-first_broken
+broken-requires-in-Some-first_broken c =
     let s = c.args.s.now in
+    let at = goal.at.broken-requires-in-Some-first_broken c in
     record {
-      below = rw (c.first_broken-row-then-not-rest_keep.ensures, c.basis_in-basis.ensures) (one_broken s (basis_in s) 40 36 4 refl (sym (rest-found (goal.at.broken-requires-then-not-rest_keep c).After-rest_keep) ∙ not-true _ c.if-not-rest_keep.true-raw));
+      below = (row_found s (basis_in s) 40 36 4 refl _ (rest-broken at.In-Some-first_broken)).high;
       whole = omega arith;
-      basis = rw c.basis_in-basis.ensures (basis_within _ (fixed-here (goal.at.broken-requires-then-not-rest_keep c).Else-not-four_keep));
+      basis = basis-ranged at.After-basis_in-basis (fixed-here at.In_default);
     }
 
-pub returns-then-not-rest_keep : goal.returns-then-not-rest_keep
-returns-then-not-rest_keep c =
-    let s = c.args.s.now in
-    ap Refused (c.broken-then-not-rest_keep.ensures ∙ rw (c.first_broken-row-then-not-rest_keep.ensures, c.basis_in-basis.ensures))
-    ∙ sym (late_refused s c.if-s-lt-HEADER_BYTES.false nothing (four-kept (goal.at.returns-then-not-rest_keep c).Else-not-four_keep) (sym (rest-found (goal.at.returns-then-not-rest_keep c).After-rest_keep) ∙ not-true _ c.if-not-rest_keep.true-raw))
+pub returns-in-Some-first_broken : goal.returns-in-Some-first_broken
+returns-in-Some-first_broken c =
+    let at = goal.at.returns-in-Some-first_broken c in
+    ap Err (c.broken-in-Some-first_broken.ensures ∙ rw c.basis_in-basis.ensures)
+    ∙ sym (late_refused _ c.if-s-lt-HEADER_BYTES.false nothing (four-kept at.In_default) _ (rest-broken at.In-Some-first_broken))
 
 pub returns : goal.returns
 unfolding facts_in
 returns c =
-    ap Good (λ k. record {
+    let at = goal.at.returns c in
+    ap Ok (λ k. record {
       grid = (c.basis_in-basis.ensures k).grid;
       latitude = (c.basis_in-basis.ensures k).latitude;
       longitude = (c.basis_in-basis.ensures k).longitude;
       partial = c.decimal.ensures.0 k;
     })
-    ∙ sym (all_kept _ c.if-s-lt-HEADER_BYTES.false nothing (four-kept (goal.at.returns c).Else-not-four_keep) (sym (rest-found (goal.at.returns c).After-rest_keep) ∙ not-false _ c.if-not-rest_keep.false-raw))
+    ∙ sym (all_kept _ c.if-s-lt-HEADER_BYTES.false nothing (four-kept at.In_default) (rest-kept at.In_default-first_broken))

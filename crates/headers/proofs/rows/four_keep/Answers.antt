@@ -1,9 +1,10 @@
--- `four_keep`: row after row.
-use mathlib.Core.Path.{sym}
-use Rattle.headers.proofs.KeptRows.{kept_four}
+-- `four_keep`: the search finds none exactly where all four keep their rules.
+use Rattle.std.proofs.Common.{◌≡◌, ◌+◌, ◌-◌, arith, rules}
+use Rattle.headers.proofs.KeptRows.{search_ends}
 use Rattle.headers.proofs.rows.four_keep.Goals as goal
 
 pub returns : goal.returns
 returns c =
     let a = c.args in
-    rw (c.also_row.ensures, c.also_row-kept-2.ensures, c.also_row-kept.ensures, c.row_keeps-kept.ensures) (sym (kept_four a.s.now a.basis a.from))
+    let four : a.from + 4 - a.from ≡ 4 = omega arith in
+    search_ends a.s.now a.basis 4 a.from c.is_none.result (rw (← four, ← c.first_broken.ensures) (search rules))

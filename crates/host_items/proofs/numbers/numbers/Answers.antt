@@ -25,11 +25,11 @@ degrees-requires c = record { angle = omega (arith, (within (goal.at.degrees-req
 pub degrees-requires-2 : goal.degrees-requires-2
 degrees-requires-2 c = record { angle = omega (arith, (within (goal.at.degrees-requires-2 c).Start).longitude); side = omega arith }
 
-pub counting-requires-3 : goal.counting-requires-3
-counting-requires-3 c = omega (arith, (within (goal.at.counting-requires-3 c).Start).edition_high)
+pub counting-requires-2 : goal.counting-requires-2
+counting-requires-2 c = omega (arith, (within (goal.at.counting-requires-2 c).Start).edition_high)
 
-pub counting-requires-5 : goal.counting-requires-5
-counting-requires-5 c = omega (arith, (within (goal.at.counting-requires-5 c).Start).partial)
+pub counting-requires-3 : goal.counting-requires-3
+counting-requires-3 c = omega (arith, (within (goal.at.counting-requires-3 c).Start).partial)
 
 pub returns : goal.returns
 unfolding numbers_of
@@ -38,14 +38,14 @@ returns c =
       back (record { sfits = c.counting.type_inv }) c.counting.ensures,
       back (record { sfits = c.degrees.type_inv }) c.degrees.ensures,
       back (record { sfits = c.degrees-2.type_inv }) c.degrees-2.ensures,
+      back (record { sfits = c.from.type_inv }) c.from.ensures,
       back (record { sfits = c.counting-2.type_inv }) c.counting-2.ensures,
-      back (record { sfits = c.counting-3.type_inv }) c.counting-3.ensures,
-      back (record { sfits = c.counting-4.type_inv }) c.counting-4.ensures,
+      back (record { sfits = c.from-2.type_inv }) c.from-2.ensures,
       back (record { sfits = c.datum_number.type_inv }) c.datum_number.ensures,
       back (record { sfits = c.accuracy_number.type_inv }) c.accuracy_number.ensures,
       back (record { sfits = c.accuracy_number-2.type_inv }) c.accuracy_number-2.ensures,
       back (record { sfits = c.accuracy_number-3.type_inv }) c.accuracy_number-3.ensures,
       back (record { sfits = c.accuracy_number-4.type_inv }) c.accuracy_number-4.ensures,
       back (record { sfits = c.accuracy_number-5.type_inv }) c.accuracy_number-5.ensures,
-      back (record { sfits = c.counting-5.type_inv }) c.counting-5.ensures,
+      back (record { sfits = c.counting-3.type_inv }) c.counting-3.ensures,
     )

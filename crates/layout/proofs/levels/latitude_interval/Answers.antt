@@ -1,13 +1,16 @@
 -- `levels::latitude_interval` meets its contract: the table's entry, or past its end.
-use mathlib.Core.Path.{refl, sym}
-use lib.ListN.{get_or-eq_default}
+use Rattle.std.proofs.Common.{◌≡◌, sym, ◌∙◌, ℕ, get_or, Bor, Option, Some, None, nat_lt}
+use Rattle.std.specs.Option.{is_some, IfSome, option_copied, unwrap_or}
+use Rattle.std.proofs.lemmas.List.{get_or_default, get_or_past}
+use borrow.Author.Tests.{ltb-true, ltb-false}
 use Rattle.layout.specs.Levels.{intervals, latitude_interval}
 use Rattle.layout.proofs.levels.latitude_interval.Goals as goal
 
-pub returns-then-level-lt3 : goal.returns-then-level-lt3
-unfolding latitude_interval
-returns-then-level-lt3 c = refl
+entry : (r : Option (Bor ℕ)) (level : ℕ) → is_some r ≡ nat_lt level 3 → IfSome r (λ x. x.now ≡ get_or intervals level x.now)
+    → unwrap_or (option_copied r) 0 ≡ get_or intervals level 0
+entry (Some x) level there is = is ∙ get_or_default intervals level x.now 0 (ltb-true level 3 (sym there))
+entry None level there is = sym (get_or_past intervals level 0 (ltb-false level 3 (sym there)))
 
-pub returns-else-level-lt3 : goal.returns-else-level-lt3
+pub returns : goal.returns
 unfolding latitude_interval
-returns-else-level-lt3 c = sym (get_or-eq_default intervals 0 {n = c.args.level} c.if-level-lt3.false)
+returns c = rw (c.unwrap_or.ensures, c.copied.ensures) (entry c.get.result c.args.level c.get.ensures.lookup.0 c.get.ensures.lookup.1)

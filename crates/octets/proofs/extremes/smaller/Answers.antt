@@ -1,18 +1,7 @@
--- `smaller`: what the machine compares are the numbers themselves.
-use Rattle.std.proofs.Common.{to_z-of_z}
-use Rattle.octets.specs.Extremes.{smaller_of}
+-- `smaller`: where neither is below the other, the two are one.
+use Rattle.octets.proofs.ExtremeLaws.{smaller_is}
+use Rattle.std.proofs.Common.{arith, to_z-of_z}
 use Rattle.octets.proofs.extremes.smaller.Goals as goal
 
-pub returns-then-a-b : goal.returns-then-a-b
-unfolding smaller_of
-returns-then-a-b c =
-    let f = c.ranges {-?-} in
-    let e = rw (to_z-of_z f.a, to_z-of_z f.b) at c.if-a-b.true in
-    rw (to_z-of_z f.a, e)
-
-pub returns-else-a-b : goal.returns-else-a-b
-unfolding smaller_of
-returns-else-a-b c =
-    let f = c.ranges {-?-} in
-    let e = rw (to_z-of_z f.a, to_z-of_z f.b) at c.if-a-b.false in
-    rw (to_z-of_z f.b, e)
+pub returns : goal.returns
+returns c = grind (arith, to_z-of_z, smaller_is)

@@ -1,8 +1,8 @@
--- `be32` is `be24` and one byte more.
+-- `be32`: the number that the bytes write, place by place.
 use Rattle.octets.specs.Places.{value}
-use Rattle.std.proofs.Common.{arith}
+use Rattle.std.proofs.Common.{add-zero, arith}
 use Rattle.octets.proofs.numbers.be32.Goals as goal
 
 pub returns : goal.returns
 unfolding value
-returns c = omega arith
+returns c = rw add-zero (omega arith)

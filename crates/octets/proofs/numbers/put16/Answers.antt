@@ -1,8 +1,8 @@
--- `put16`: swapped, the two bytes are the word's, the high one first.
-use Rattle.octets.proofs.NumberLaws.{swapped_bytes}
-use Rattle.std.proofs.Common.{arith}
+-- `put16`: the bytes that are pasted are the number's.
+use Rattle.std.proofs.Common.{ap, ◌∙◌}
+use Rattle.octets.specs.Pastes.{pasted}
+use Rattle.octets.proofs.NumberLaws.{bytes_high}
 use Rattle.octets.proofs.numbers.put16.Goals as goal
 
 pub returns : goal.returns
-returns c =
-    rw (swapped_bytes c.args.v (omega arith)) (rw c.swapped.ensures at c.put_low_first.ensures)
+returns c = c.paste.ensures ∙ ap (pasted c.args.s.now c.args.at) (c.to_be_bytes.ensures ∙ bytes_high 2 c.args.v)

@@ -1,9 +1,8 @@
--- `put32` stores four bytes: a paste.
-use Rattle.octets.proofs.PasteLaws.{stores, two_on, three_on}
-use Rattle.octets.specs.Places.{places}
-use Rattle.std.proofs.Common.{add-one}
+-- `put32`: the bytes that are pasted are the number's.
+use Rattle.std.proofs.Common.{ap, ◌∙◌}
+use Rattle.octets.specs.Pastes.{pasted}
+use Rattle.octets.proofs.NumberLaws.{bytes_high}
 use Rattle.octets.proofs.numbers.put32.Goals as goal
 
 pub returns : goal.returns
-unfolding places
-returns c = rw (add-one, two_on, three_on) (stores _ _ _ c.requires)
+returns c = c.paste.ensures ∙ ap (pasted c.args.s.now c.args.at) (c.to_be_bytes.ensures ∙ bytes_high 4 c.args.v)

@@ -1,12 +1,13 @@
--- `fill`: what stands so far is a paste of so many bytes of the value.
-use Rattle.std.proofs.Common.{sym, refl, arith, length-set}
-use Rattle.octets.proofs.PasteLaws.{paste_none, fill_more}
+-- `fill`: the part that was lent came back as so many bytes of the value.
+use Rattle.std.proofs.Common.{◌≡◌, ℕ, ◌+◌, ◌-◌, length, take, drop, replicate, ap, ◌∙◌, arith}
+use lib.ListN.{length-replicate}
+use Rattle.octets.proofs.PasteLaws.{part_back, length_part}
 use Rattle.octets.proofs.pastes.fill.Goals as goal
 
-pub loop-i-init : goal.loop-i-init
-loop-i-init c = (omega arith, (sym (paste_none _ _), refl))
-
-pub loop-i-preserved : goal.loop-i-preserved
-loop-i-preserved c =
+pub returns : goal.returns
+returns c =
     let a = c.args in
-    (omega arith, (rw c.loop-i.invariant.1.0 (fill_more a.dst.now a.at c.loop-i.i a.b (omega arith)), simp length-set c.loop-i.invariant.1.1))
+    let lent = take (a.at + a.n - a.at) (drop a.at a.dst.now) in
+    let long : length lent ≡ a.n = length_part a.dst.now a.at (a.at + a.n) (omega arith) (omega arith) ∙ omega arith in
+    let filled : c.fill.new.self ≡ replicate a.n a.b = c.fill.ensures.after (λ y e. e) ∙ ap (λ (k : ℕ). replicate k a.b) long in
+    rw filled (part_back a.dst.now a.at (a.at + a.n - a.at) (replicate a.n a.b) (rw length-replicate (omega arith)))

@@ -1,11 +1,16 @@
--- `sum`: what is summed so far and the sum of what is left are the whole.
-use Rattle.std.proofs.Common.{arith}
-use Rattle.octets.proofs.SumLaws.{sum_step, sum_done}
+-- `sum`: the sum of each byte as a wider number.
+use Rattle.std.proofs.Common.{ℕ, sym, refl, ◌∙◌, rules}
+use Rattle.std.proofs.lemmas.Iterator.{YieldsList-from_slice, YieldsList-from_map}
+use Rattle.std.proofs.lemmas.Iterator.Consumers.{sum_by_from_yields_List}
+use Rattle.std.proofs.lemmas.List.Recursion.{is_sum_by}
+use Rattle.octets.specs.Sums.{sum_of}
+use borrow.Author.Tests.{tests}
 use Rattle.octets.proofs.sums.sum.Goals as goal
 
-pub loop-i-preserved : goal.loop-i-preserved
-loop-i-preserved c =
-    omega (arith, sum_step c.args.part.now c.loop-i.i (omega arith))
-
 pub returns : goal.returns
-returns c = omega (arith, sum_done c.args.part.now c.loop-i.i c.loop-i-test.false)
+unfolding sum_of
+returns c =
+    let b = c.args.part.now in
+    sum_by_from_yields_List (λ (x : ℕ). x) b c.map.result c.sum.result c.sum.ensures.ran
+    (YieldsList-from_map _ (λ (x : ℕ). x) (YieldsList-from_slice b (cc)) c.map.ensures.closure (λ x r q k. search (rules, tests)))
+    ∙ sym (is_sum_by sum_of (λ (x : ℕ). x) refl (λ x l. refl) b)

@@ -11,7 +11,7 @@ returns-then-s-at c =
 pub loop-i-preserved : goal.loop-i-preserved
 loop-i-preserved c =
     let a = c.args in
-    (omega arith, omega (arith, differ_on a.s.now a.want.now a.at c.loop-i.i (omega arith) c.if-s-at.false))
+    omega (arith, differ_on a.s.now a.want.now a.at c.loop-i.i (omega arith) c.if-s-at.false)
 
 pub returns : goal.returns
 returns c =

@@ -1,12 +1,7 @@
--- `twos::number_of`: below the sign bit, and from it on.
-use Rattle.octets.proofs.TwosLaws.{low, high, high_fits}
+-- `number_of`: the machine's reading of the word is the definition's.
+use Rattle.octets.proofs.TwosLaws.{twos_read}
 use Rattle.std.proofs.Common.{arith, to_z-of_z}
 use Rattle.octets.proofs.twos.number_of.Goals as goal
 
-pub returns-then-word-lt32768 : goal.returns-then-word-lt32768
-returns-then-word-lt32768 c = low _ c.if-word-lt32768.true
-
 pub returns : goal.returns
-returns c =
-    let w = c.args.word in
-    rw (high w c.if-word-lt32768.false (omega arith)) (to_z-of_z (high_fits w c.if-word-lt32768.false (omega arith)))
+returns c = grind (arith, to_z-of_z, twos_read)

@@ -8,7 +8,6 @@ use Rattle.posts.proofs.parts.measure_part.Given as goal
 
 -- after i words: highest, deepest, and what is summed so far
 pub record Measured (s : List ℕ) (at n : ℕ) (voids : Bool) (high deep : ℤ) (words highs i : ℕ) : Type 0 where
-  pub due : i ≤ n
   pub kept : words < 0x10000
   pub high_bytes : highs ≤ 255 * i
   pub low_bytes : lows_of words highs ≤ 255 * i
@@ -17,6 +16,3 @@ pub record Measured (s : List ℕ) (at n : ℕ) (voids : Bool) (high deep : ℤ)
 
 abbrev pub invariant-loop-i : goal.invariant-loop-i
 invariant-loop-i l = Measured l.s l.at l.n l.voids l.highest l.deepest l.words l.highs l.i
-
-abbrev pub decreases-loop-i : goal.decreases-loop-i
-decreases-loop-i l = l.n - l.i

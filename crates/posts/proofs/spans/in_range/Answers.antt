@@ -5,4 +5,4 @@ use Rattle.posts.proofs.spans.in_range.Goals as goal
 
 pub returns : goal.returns
 unfolding span_in_range
-returns c = rw (to_z-of_z c.ranges.lowest, {-?-} to_z-of_z c.ranges.highest {-?-}) at c.both.ensures
+returns c = rw (to_z-of_z c.ranges.lowest, to_z-of_z c.ranges.highest) at c.both.ensures

@@ -1,20 +1,9 @@
 -- `column_answer`: by whether a column is due, whether the piece is long enough, and how it is judged.
-use Rattle.answers.specs.Told.{more}
-use Rattle.columns.specs.declared.JudgedColumn.{JudgedColumn}
-use Rattle.intake.specs.Intake.{or_rest}
+use Rattle.std.specs.Prelude.{Ok, Err}
+use Rattle.std.proofs.Common.{rules}
 use Rattle.steps.proofs.Pieces.{piece_past, piece_short, piece_judged}
-use Rattle.steps.specs.Steps.{said_of_column}
 use mathlib.Core.Path.{◌≡◌, sym, ◌∙◌}
 use Rattle.steps.proofs.piece.column_answer.Goals as goal
-use Rattle.steps.proofs.piece.column_answer.Goals.{After-judge-judged}
-
--- where the column was judged x, the answer goes by x
-judged-as : (c : After-judge-judged) (x : JudgedColumn) → c.judge-judged.result ≡ x →
-    let a = c.args in
-    said_of_column a.frame a.next a.piece.now ≡ or_rest x more
-judged-as c x q =
-    let a = c.args in
-    piece_judged a.frame a.next a.piece.now c.if-grid-next.false c.if-piece-size.false x (rw c.judge-judged.ensures at q)
 
 pub returns-then-grid-next : goal.returns-then-grid-next
 returns-then-grid-next c =
@@ -26,8 +15,14 @@ returns-then-piece-size c =
     let a = c.args in
     sym (piece_short a.frame a.next a.piece.now c.if-grid-next.false c.if-piece-size.true)
 
-pub returns-in-Good : goal.returns-in-Good
-returns-in-Good c = sym (judged-as (goal.at.returns-in-Good c).After-judge-judged _ c.in-Good.is)
+pub returns : goal.returns
+returns c =
+    let a = c.args in
+    sym (piece_judged a.frame a.next a.piece.now c.if-grid-next.false c.if-piece-size.false (Ok tt) (sym c.in_ok-judge.ensures))
 
-pub returns-in-Refused : goal.returns-in-Refused
-returns-in-Refused c = sym (judged-as (goal.at.returns-in-Refused c).After-judge-judged _ c.in-Refused.is)
+pub returns-in_err-judge : goal.returns-in_err-judge
+returns-in_err-judge c =
+    let a = c.args in
+    let x = c.in_err-judge in
+    let left : c.from_residual.result ≡ Err x.field-0.0 = search rules in
+    rw left (sym (piece_judged a.frame a.next a.piece.now c.if-grid-next.false c.if-piece-size.false (Err x.field-0.0) (sym x.ensures)))
