@@ -1,4 +1,5 @@
--- The digits that std displays are those of the definition, and so a displayed verdict is its line; and no line is longer than its room.
+-- The digits that std displays are those of the definition, and so the line of a verdict is what std would display of its numbers; and no line
+-- is longer than its room.
 use Prim.Native.Nat.{ℕ, ◌+◌, ◌/◌, ◌%◌, ◌<◌, ◌≤◌, ◌^◌}
 use native.Mathlib.Omega.{arith}
 use mathlib.Core.Path.{◌≡◌, sym, ap, ◌∙◌}
@@ -30,7 +31,7 @@ item_is : (v behind : ℕ) (rest : List ℕ) → v < 2 ^ 64 → decimal v ++ (be
 unfolding item
 item_is v behind rest h = sym (append_assoc (decimal_of v) (behind ∷ []) rest ∙ ap (λ (l : List ℕ). l ++ (behind ∷ rest)) (decimals v h))
 
--- S7: the text that a verdict is displayed as
+-- S7: what std would display of a verdict's numbers is its line
 pub refused_is : (number place : ℕ) → number < 2 ^ 64 → place < 2 ^ 64
     → ascii "refused " ++ (decimal number ++ (blank ∷ (decimal place ++ (line_feed ∷ [])))) ≡ refused_line number place
 unfolding refused_line

@@ -2,4 +2,3 @@
 pub mod Widths
 pub mod LinePastes
 pub mod Decimals
-pub mod Texts

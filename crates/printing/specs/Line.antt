@@ -1,7 +1,8 @@
 -- The line that tells a final answer of intake (rule S7), as its bytes.
-use Rattle.std.specs.Prelude.{ℕ, zero, suc, ◌/◌, List, [], ◌∷◌, ◌++◌, eqb, ltb}
+use Rattle.std.specs.Prelude.{ℕ, zero, suc, ◌/◌, List, [], ◌∷◌, ◌++◌, eqb, ltb, replicate}
 use Rattle.octets.specs.Choice.{pick}
 use Rattle.octets.specs.Digits.{digits_of}
+use Rattle.octets.specs.Pastes.{pasted}
 use Rattle.octets.specs.Texts.{ascii}
 use Rattle.answers.specs.Told.{Told, refused, said, accepted_tag, count_at}
 
@@ -40,3 +41,7 @@ refused_line number place = ascii "refused " ++ (item number blank ++ item place
 abbrev pub line_of : Told → List ℕ
 line_of (refused number place) = refused_line number place
 line_of (said tag values) = pick (eqb tag accepted_tag) (accepted_line (count_at values 0) (count_at values 1) (count_at values 2)) []
+
+-- a line at the front of an array, with room for any; the rest are zeros
+abbrev pub in_array : List ℕ → List ℕ
+in_array line = pasted (replicate 72 0) 0 line

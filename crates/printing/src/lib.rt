@@ -8,16 +8,12 @@ ghost use Rattle.printing.specs.Line.{line_of};
 ghost use Rattle.printing.specs.Written.{AppendsFront};
 
 use answers::{Refusal, Verdict};
-use std::fmt::{InlineText, Write as _};
 use std::io;
 use std::io::Write;
 
 mod lines;
 
-use crate::lines::Line;
-
-// The longest line: `accepted `, and three numbers of 20 digits with a byte behind each.
-const ROOM: usize = 72;
+use crate::lines::line_of;
 
 // Writes the bytes: all by one write, where the writer takes so many at once. A write that fails or takes none ends it: the writer has their front.
 // Kept: std's `write_all` promises nothing of what the writer has after an error, which is the clause `front`.
@@ -41,7 +37,6 @@ pub fn verdict<W: Write>(out: &mut W, verdict: Result<Verdict, Refusal>) -> io::
     ensures whole { OnOk result (Appends (W.contents out.old) (W.contents out.new) (line_of (told intake verdict))) }
     ensures front { AppendsFront (W.contents out.old) (W.contents out.new) (line_of (told intake verdict)) }
 {
-    let mut line = InlineText::<ROOM>::new();
-    write!(line, "{}", Line { verdict })?;
-    write_out(out, line.as_str().as_bytes())
+    let line = line_of(verdict);
+    write_out(out, &line.bytes[..line.length])
 }
