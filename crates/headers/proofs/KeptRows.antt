@@ -1,5 +1,6 @@
 -- Rows judged together: all of a part of the table keep their rules exactly where the search finds none that breaks its own.
 use Rattle.std.specs.Prelude.{Option, Some, None, is_some}
+use Rattle.std.specs.Option.{unwrap_or}
 use Prim.Native.Nat.{ℕ, zero, suc, ◌+◌}
 use mathlib.Core.Path.{◌≡◌, refl, sym, ap, ◌∙◌}
 use mathlib.Core.Bool.{Bool, true, false, not}
@@ -29,6 +30,10 @@ no_some : (r : Option ℕ) → is_some r ≡ false → r ≡ None
 no_some None e = refl
 no_some (Some i) e = clash refl e
 
+some_or : (r : Option ℕ) (none : ℕ) → is_some r ≡ true → r ≡ Some (unwrap_or r none)
+some_or None none e = clash e refl
+some_or (Some i) none e = refl
+
 module _ (s : List ℕ) (d : Basis) where
   -- all do exactly where the search finds none
   pub none_broken : (n i : ℕ) → is_some (first_in s d i n) ≡ not (kept_in s d i n)
@@ -45,6 +50,10 @@ module _ (s : List ℕ) (d : Basis) where
 
   pub none_kept : (n i : ℕ) → first_in s d i n ≡ None → kept_in s d i n ≡ true
   none_kept n i e = sym (search_ends n i true (ap is_some e))
+
+  -- and where one does not, it is the row that the search found, whatever is taken where none is
+  pub one_broken : (n i none : ℕ) → kept_in s d i n ≡ false → (r : Option ℕ) → r ≡ first_in s d i n → (row : ℕ) → row ≡ unwrap_or r none → first_in s d i n ≡ Some row
+  one_broken n i none k r e row f = sym e ∙ some_or r none (ap is_some e ∙ none_broken n i ∙ ap not k) ∙ ap Some (sym f)
 
   pub kept_none : (n i : ℕ) → kept_in s d i n ≡ true → first_in s d i n ≡ None
   kept_none n i k = no_some (first_in s d i n) (none_broken n i ∙ ap not k)

@@ -7,7 +7,7 @@ ghost use Rattle.headers.specs.Asked.{RowToTell, LatitudeInRange};
 
 use crate::Facts;
 use crate::readings::{level_at, origin};
-use crate::rows::{FIRST, first_broken};
+use crate::rows::{FIRST, first_broken, four_keep, rest_keep};
 use angles::{EASTWARD, NORTHWARD};
 use answers::Refusal;
 use due::{Basis, NOTHING};
@@ -42,18 +42,21 @@ fn basis_in(s: &[u8]) -> Basis
     }
 }
 
-// The facts of good headers, or the refusal of any bytes that do not begin with such.
+// The facts of good headers, or the refusal of any bytes that do not begin with such. Kept: rows are asked together, and where one breaks its
+// rule the search finds it: the promises of `four_keep` and `rest_keep` are of the rows that are judged.
 pub fn judge(s: &[u8]) -> Result<Facts, Refusal>
     ensures { result ≡ by.judged s.now }
 {
     if s.len() < HEADER_BYTES {
         return Err(Refusal::Short(s.len()));
     }
-    if let Some(row) = first_broken(s, NOTHING, 0, FIRST) {
+    if !four_keep(s, NOTHING, 0) {
+        let row = first_broken(s, NOTHING, 0, FIRST).unwrap_or(FIRST);
         return Err(broken(s, NOTHING, row));
     }
     let basis = basis_in(s);
-    if let Some(row) = first_broken(s, basis, FIRST, FIELDS) {
+    if !rest_keep(s, basis) {
+        let row = first_broken(s, basis, FIRST, FIELDS).unwrap_or(FIELDS);
         return Err(broken(s, basis, row));
     }
     Ok(Facts {
