@@ -5,7 +5,9 @@ use Rattle.headers.proofs.TwoParts.{early_below, early_refused, early_fixed, lat
 use Rattle.headers.specs.Basis.{basis_in}
 use Rattle.headers.specs.Judged.{facts_in}
 use Rattle.due.specs.Due.{nothing}
+use Rattle.due.specs.declared.Basis.{Basis}
 use Rattle.rules.specs.Asked.{BasisInRange}
+use Rattle.headers.specs.Asked.{RowsToJudge}
 use Rattle.std.proofs.Common.{arith}
 use Rattle.headers.proofs.Exactly.{judged_short}
 use mathlib.Core.Bool.{true}
@@ -29,16 +31,20 @@ four-broken c = one_broken _ nothing 4 0 4 (sym c.four_keep.ensures ∙ c.if-not
 basis-ranged : (c : After-basis_in-basis) → Fixed c.args.s.now → BasisInRange c.basis_in-basis.result
 basis-ranged c f = rw c.basis_in-basis.ensures (basis_within _ f)
 
+-- so the rest may be asked about, together and one by one
+rest-asked : (c : After-basis_in-basis) → Fixed c.args.s.now → RowsToJudge c.args.s.now c.basis_in-basis.result 4 40
+rest-asked c f = record { ordered = omega arith; rows = omega arith; whole = c.if-s-lt-HEADER_BYTES.false; basis = basis-ranged c f }
+
 -- the rest are judged by what those make due
 rest-found : (c : After-rest_keep) → let s = c.args.s.now in
     c.rest_keep.result ≡ kept_in s (basis_in s) 4 36
-rest-found c = rw c.basis_in-basis.ensures at c.rest_keep.ensures
+rest-found c = c.rest_keep.ensures ∙ ap (λ (b : Basis). kept_in c.args.s.now b 4 36) c.basis_in-basis.ensures
 
 rest-broken : (c : After-unwrap_or-row-then-not-rest_keep) → let s = c.args.s.now in
     first_in s (basis_in s) 4 36 ≡ Some c.unwrap_or-row-then-not-rest_keep.result
 rest-broken c =
-    let e : c.rest_keep.result ≡ kept_in c.args.s.now (basis_in c.args.s.now) 4 36 = rw c.basis_in-basis.ensures at c.rest_keep.ensures in
-    one_broken _ _ 36 4 40 (sym e ∙ c.if-not-rest_keep.true) _ (rw c.basis_in-basis.ensures at c.first_broken-then-not-rest_keep.ensures) _ c.unwrap_or-row-then-not-rest_keep.ensures
+    ap (λ (b : Basis). first_in c.args.s.now b 4 36) (sym c.basis_in-basis.ensures)
+    ∙ one_broken _ c.basis_in-basis.result 36 4 40 (sym c.rest_keep.ensures ∙ c.if-not-rest_keep.true) _ c.first_broken-then-not-rest_keep.ensures _ c.unwrap_or-row-then-not-rest_keep.ensures
 
 pub returns-then-s-lt-HEADER_BYTES : goal.returns-then-s-lt-HEADER_BYTES
 returns-then-s-lt-HEADER_BYTES c = sym (judged_short _ c.if-s-lt-HEADER_BYTES.true)
@@ -55,14 +61,11 @@ pub basis_in-basis-requires : goal.basis_in-basis-requires
 basis_in-basis-requires c = record { whole = c.if-s-lt-HEADER_BYTES.false; latitude = (fixed-here (goal.at.basis_in-basis-requires c).Else-not-four_keep).latitude }
 
 pub rest_keep-requires : goal.rest_keep-requires
-rest_keep-requires c =
-    let at = goal.at.rest_keep-requires c in
-    record { ordered = omega arith; rows = omega arith; whole = omega arith; basis = basis-ranged at.After-basis_in-basis (fixed-here at.Else-not-four_keep) }
+rest_keep-requires c = let at = goal.at.rest_keep-requires c in rest-asked at.After-basis_in-basis (fixed-here at.Else-not-four_keep)
 
 pub first_broken-requires-then-not-rest_keep : goal.first_broken-requires-then-not-rest_keep
 first_broken-requires-then-not-rest_keep c =
-    let at = goal.at.first_broken-requires-then-not-rest_keep c in
-    record { ordered = omega arith; rows = omega arith; whole = omega arith; basis = basis-ranged at.After-basis_in-basis (fixed-here at.Else-not-four_keep) }
+    let at = goal.at.first_broken-requires-then-not-rest_keep c in rest-asked at.After-basis_in-basis (fixed-here at.Else-not-four_keep)
 
 pub broken-requires-then-not-rest_keep : goal.broken-requires-then-not-rest_keep
 broken-requires-then-not-rest_keep c =
